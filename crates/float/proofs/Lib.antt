@@ -1,0 +1,7 @@
+-- Laws that dependents may cite.
+pub mod Cases
+pub mod Laws
+pub mod Own
+pub mod Order
+pub mod Zeros
+pub mod Edges

@@ -1,0 +1,4 @@
+pub mod Operators
+pub mod Constants
+pub mod Methods
+pub mod Counter

@@ -1,0 +1,5 @@
+-- Laws that dependents may cite.
+pub mod Lists
+pub mod Stores
+pub mod Parts
+pub mod Matrices

@@ -1,0 +1,103 @@
+-- `puts`: its length, what it leaves, what it holds, and one more store of a loop. Assumes nothing.
+use Prim.Native.Nat.{ℕ, zero, suc, _+_, _-_, _<_, _≤_}
+use native.Mathlib.Omega.{arith}
+use native.Mathlib.Numerals.{add-one}
+use mathlib.Core.Path.{_≡_, refl, sym, ap, _∙_}
+use mathlib.Core.List.{List, _++_}
+use mathlib.Core.Logic.{_⊎_, inl, inr, ⊎-elim}
+use lib.ListN.{length, take, drop, getD, set, length-set, length-append, length-drop, List·getD-append}
+use lib.Seq.{getD-set-same, getD-set-other, getD-take, getD-drop, getD-append-add, length-take-le, ext-getD}
+use lib.Dec.{eqb, ltb}
+use borrow.Author.Tests.{eqb-true, eqb-false, ltb-true, ltb-false}
+use borrow.Rule.Slice.PartMut.{putMid, postOf}
+use Rattle.float.proofs.Cases.{by}
+use Rattle.vector.specs.Parts.{puts}
+
+module _ {A : Type 0} where
+  pub length-puts : (w : List A) (at : ℕ) (f : ℕ → A) (n : ℕ) → length (puts w at f n) ≡ length w
+  unfolding puts
+  length-puts w at f zero = refl
+  length-puts w at f (suc n) = simp length-set (length-puts w at f n)
+
+  -- what lies outside is left
+  pub puts-left : (d : A) (w : List A) (at : ℕ) (f : ℕ → A) (n j : ℕ) → (j < at) ⊎ (at + n ≤ j) → getD (puts w at f n) j d ≡ getD w j d
+  unfolding puts
+  puts-left d w at f zero j h = refl
+  puts-left d w at f (suc n) j h =
+      let q : j ≡ at + n → ⊥ = λ e. ⊎-elim (λ a. omega arith) (λ a. omega arith) h in
+      getD-set-other (puts w at f n) (at + n) j (f n) d q
+      ∙ puts-left d w at f n j (⊎-elim {C = (j < at) ⊎ (at + n ≤ j)} (λ a. inl a) (λ a. inr (omega arith)) h)
+
+  pub puts-held : (d : A) (w : List A) (at : ℕ) (f : ℕ → A) (n i : ℕ) → at + n ≤ length w → i < n → getD (puts w at f n) (at + i) d ≡ f i
+  unfolding puts
+  puts-held d w at f zero i l h = absurd (omega arith)
+  puts-held d w at f (suc n) i l h =
+      by (eqb i n)
+      (λ t. let e : i ≡ n = eqb-true i n t in
+      rw e (getD-set-same (puts w at f n) (at + n) (f n) d (omega (arith, length-puts w at f n))))
+      (λ t. let k : i < n = omega (arith, eqb-false i n t) in
+      getD-set-other (puts w at f n) (at + n) (at + i) (f n) d (λ q. eqb-false i n t (omega arith))
+      ∙ puts-held d w at f n i (omega arith) k)
+
+  -- a loop's next store, of a value that is right
+  pub puts-more : (w : List A) (at : ℕ) (f : ℕ → A) (k : ℕ) {v : A} → v ≡ f k → set (puts w at f k) (at + k) v ≡ puts w at f (k + 1)
+  unfolding puts
+  puts-more w at f k e = rw (add-one, e)
+
+  -- what a loop reads and has not written: ahead of what it writes, or before all of that
+  pub puts-ahead : (d : A) (w : List A) (at : ℕ) (f : ℕ → A) (n k a : ℕ) → k < n → (a + n ≤ at) ⊎ (at ≤ a) → getD (puts w at f k) (a + k) d ≡ getD w (a + k) d
+  puts-ahead d w at f n k a l h =
+      puts-left d w at f k (a + k) (⊎-elim {C = (a + k < at) ⊎ (at + k ≤ a + k)} (λ q. inl (omega arith)) (λ q. inr (omega arith)) h)
+
+  -- values that agree are one store
+  pub puts-same : (w : List A) (at : ℕ) (f g : ℕ → A) (n : ℕ) → ((j : ℕ) → j < n → f j ≡ g j) → puts w at f n ≡ puts w at g n
+  unfolding puts
+  puts-same w at f g zero h = refl
+  puts-same w at f g (suc n) h = rw (puts-same w at f g n (λ j k. h j (omega arith)), h n (omega arith))
+
+  -- ---- a part that was lent, from a on and k long, and has come back as ys: `putMid a k xs ys`
+  pub mid-before : (d : A) (a k : ℕ) (xs ys : List A) (j : ℕ) → a ≤ length xs → j < a → getD (putMid a k xs ys) j d ≡ getD xs j d
+  mid-before d a k xs ys j h q =
+      List·getD-append (take a xs) (ys ++ postOf a k xs) d j (omega (arith, length-take-le a xs h)) ∙ getD-take a xs j d q
+
+  pub mid-inside : (d : A) (a k : ℕ) (xs ys : List A) (j : ℕ) → a ≤ length xs → j < length ys → getD (putMid a k xs ys) (a + j) d ≡ getD ys j d
+  mid-inside d a k xs ys j h q =
+      let e : a + j ≡ length (take a xs) + j = omega (arith, length-take-le a xs h) in
+      ap (λ (i : ℕ). getD (putMid a k xs ys) i d) e ∙ getD-append-add (take a xs) (ys ++ postOf a k xs) j d ∙ List·getD-append ys (postOf a k xs) d j q
+
+  pub mid-after : (d : A) (a k : ℕ) (xs ys : List A) (j : ℕ) → a ≤ length xs → length ys ≡ k → a + k ≤ j → getD (putMid a k xs ys) j d ≡ getD xs j d
+  mid-after d a k xs ys j h l q =
+      let r = j - (a + k) in
+      let e : j ≡ length (take a xs) + (length ys + r) = omega (arith, length-take-le a xs h) in
+      let f : a + (k + r) ≡ j = omega arith in
+      ap (λ (i : ℕ). getD (putMid a k xs ys) i d) e
+      ∙ getD-append-add (take a xs) (ys ++ postOf a k xs) (length ys + r) d
+      ∙ getD-append-add ys (postOf a k xs) r d
+      ∙ getD-drop k (drop a xs) r d
+      ∙ getD-drop a xs (k + r) d
+      ∙ ap (λ (i : ℕ). getD xs i d) f
+
+  pub length-mid : (a k : ℕ) (xs ys : List A) → a + k ≤ length xs → length ys ≡ k → length (putMid a k xs ys) ≡ length xs
+  length-mid a k xs ys h l =
+      omega (arith, length-append (take a xs) (ys ++ postOf a k xs), length-append ys (postOf a k xs), length-take-le a xs (omega arith), length-drop k (drop a xs), length-drop a xs)
+
+  -- it is a store
+  pub mid-puts : (d : A) (a k : ℕ) (xs ys : List A) → a + k ≤ length xs → length ys ≡ k → putMid a k xs ys ≡ puts xs a (λ j. getD ys j d) k
+  mid-puts d a k xs ys h l =
+      let f : ℕ → A = λ j. getD ys j d in
+      ext-getD d (putMid a k xs ys) (puts xs a f k) (length-mid a k xs ys h l ∙ sym (length-puts xs a f k))
+      (λ j q.
+      by (ltb j a)
+      (λ t. let u : j < a = ltb-true j a t in
+      mid-before d a k xs ys j (omega arith) u ∙ sym (puts-left d xs a f k j (inl u)))
+      (λ t. let u : a ≤ j = ltb-false j a t in
+      by (ltb j (a + k))
+      (λ t₂. let v : j < a + k = ltb-true j (a + k) t₂ in
+      let e : a + (j - a) ≡ j = omega arith in
+      ap (λ (i : ℕ). getD (putMid a k xs ys) i d) (sym e) ∙ mid-inside d a k xs ys (j - a) (omega arith) (omega arith)
+      ∙ sym (puts-held d xs a f k (j - a) h (omega arith)) ∙ ap (λ (i : ℕ). getD (puts xs a f k) i d) e)
+      (λ t₂. let v : a + k ≤ j = ltb-false j (a + k) t₂ in
+      mid-after d a k xs ys j (omega arith) l v ∙ sym (puts-left d xs a f k j (inr v)))))
+
+  pub mid-stored : (d : A) (w x : List A) (at k : ℕ) {y : List A} → at + length x ≤ length w → k ≡ length x → y ≡ x → putMid at k w y ≡ puts w at (λ j. getD x j d) (length x)
+  mid-stored d w x at k {y} h e q = rw (q, e) (mid-puts d at (length x) w x h refl)

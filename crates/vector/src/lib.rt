@@ -1,0 +1,62 @@
+// Vectors of doubles: copied, filled, tested; a part of a long vector, written and read at an offset.
+ghost use mathlib.Core.Path.{_≡_};
+ghost use Prim.Native.Nat.{_+_, _≤_};
+ghost use lib.ListN.{length, replicate};
+ghost use Rattle.vector.specs.Lists.{el, allFinite};
+ghost use Rattle.vector.specs.Parts.{part, puts};
+
+// Whether each element is finite.
+pub fn all_finite(x: &[f64]) -> bool
+    ensures { λ r. ⌜ r ≡ allFinite (now (x .entry)) ⌝ }
+{
+    let mut i = 0;
+    while i < x.len() {
+        if float::is_finite(x[i]) {
+            i += 1;
+        } else {
+            return false;
+        }
+    }
+    true
+}
+
+// Copies src to dst, which is as long.
+pub fn copy(dst: &mut [f64], src: &[f64])
+    requires { ⌜ length (now dst) ≡ length (now src) ⌝ }
+    ensures { λ _. ⌜ now (dst .exit) ≡ now (src .entry) ⌝ }
+{
+    let mut i = 0;
+    while i < dst.len() {
+        dst[i] = src[i];
+        i += 1;
+    }
+}
+
+// Sets each element to v.
+pub fn fill(dst: &mut [f64], v: f64)
+    ensures { λ _. ⌜ now (dst .exit) ≡ replicate (length (now (dst .entry))) v ⌝ }
+{
+    let mut i = 0;
+    while i < dst.len() {
+        dst[i] = v;
+        i += 1;
+    }
+}
+
+// Writes x into w from `at` on.
+pub fn put(w: &mut [f64], at: usize, x: &[f64])
+    requires { ⌜ at + length (now x) ≤ length (now w) ⌝ }
+    ensures { λ _. ⌜ now (w .exit) ≡ puts (now (w .entry)) at (el (now (x .entry))) (length (now (x .entry))) ⌝ }
+{
+    let end = at + x.len();
+    copy(&mut w[at..end], x);
+}
+
+// Reads x from w, from `at` on.
+pub fn read(w: &[f64], at: usize, x: &mut [f64])
+    requires { ⌜ at + length (now x) ≤ length (now w) ⌝ }
+    ensures { λ _. ⌜ now (x .exit) ≡ part at (length (now (x .entry))) (now (w .entry)) ⌝ }
+{
+    let end = at + x.len();
+    copy(x, &w[at..end]);
+}
