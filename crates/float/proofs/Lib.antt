@@ -2,6 +2,7 @@
 pub mod Cases
 pub mod Laws
 pub mod Own
+pub mod Patterns
 pub mod Order
 pub mod Zeros
 pub mod Edges

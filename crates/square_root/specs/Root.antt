@@ -1,56 +1,41 @@
--- The whole-number square root, and the square root of a binary64, rounded to nearest. Definitions only.
-use mathlib.Core.Path.{_≡_}
-use Prim.Native.Nat.{ℕ, zero, suc, _+_, _-_, _*_, _/_, _%_, _^_, _≤_, _<_}
-use mathlib.Core.Bool.{Bool, true, false, cond}
+-- IEEE 754-2019 §5.4.1, squareRoot, for binary64 and roundTiesToEven: the function. `Nearest` has the relation that determines it. Definitions only.
+use Prim.Native.Nat.{ℕ, zero, suc, _+_, _-_, _*_, _/_, _^_}
+use mathlib.Core.Bool.{true, false, cond}
 use lib.IntN.{ℤ}
 use lib.Dec.{leb}
-use lib.Ieee.{Float, nan, inf, fin, binary64, prec, low, up, down, size, odd}
+use lib.Ieee.{Float, nan, inf, fin, up, down, size, odd}
 
--- ---- what the two helpers ensure
+-- the whole part of the root of an n below 4 ^ k, a binary digit at a time
+unfoldable pub wholeRoot : ℕ → ℕ → ℕ
+wholeRoot zero n = 0
+wholeRoot (suc k) n = let q = 2 * wholeRoot k (n / 4) in cond (leb ((q + 1) * (q + 1)) n) (q + 1) q
 
--- q * q + r = m * 2 ^ 54, with r at most 2 * q: so q is the whole part of the root
-pub record IsRoot (m q r : ℕ) : Type 0 where
-  pub whole : q * q + r ≡ m * 2 ^ 54
-  pub rest : r ≤ 2 * q
-
--- m * 2 ^ k is a * 4 ^ h / 2 ^ 52, with 2 ^ 52 ≤ a < 2 ^ 54 - 1
-pub record IsNorm (m k a h : ℕ) : Type 0 where
-  pub value : a * 4 ^ h ≡ m * 2 ^ k * 2 ^ 52
-  pub least : 2 ^ 52 ≤ a
-  pub most : a + 2 ≤ 2 ^ 54
-  pub half : h ≤ 1048
-
--- ---- the square root as a function
-
--- the whole part of the root of an n below 4 ^ k
-unfoldable pub root : ℕ → ℕ → ℕ
-root zero n = 0
-root (suc k) n = let q = 2 * root k (n / 4) in cond (leb ((q + 1) * (q + 1)) n) (q + 1) q
-
--- n * 2 ^ -1074 is n / 4 ^ h * 2 ^ (2 * h - 1074), with 1 ≤ n / 4 ^ h < 4: h is `halfOf n`, and the root of n / 4 ^ h,
--- in units of 2 ^ -52 and rounded to nearest, is `sigOf n`. The 108 digits' root has one digit more, by which it is rounded: no tie can happen.
-unfoldable pub halfOf : ℕ → ℕ
+-- n * 2 ^ -1074 is n / 4 ^ h * 2 ^ (2 * h - 1074), with 1 ≤ n / 4 ^ h < 4, where h is `halfExponent n`
+unfoldable pub halfExponent : ℕ → ℕ
 unfolding size
-halfOf n = (size n - 1) / 2
+halfExponent n = (size n - 1) / 2
 
-unfoldable pub sigOf : ℕ → ℕ
-unfolding halfOf root
-sigOf n = (root 54 (n * 2 ^ 106 / 4 ^ halfOf n) + 1) / 2
+-- The root of n / 4 ^ h in units of 2 ^ -52, rounded to nearest by one digit more. Where that digit is 1 the root goes on behind it, as the square
+-- of an odd number is odd: so no tie is met.
+unfoldable pub significand : ℕ → ℕ
+unfolding halfExponent wholeRoot
+significand n = (wholeRoot 54 (n * 2 ^ 106 / 4 ^ halfExponent n) + 1) / 2
 
 -- the root of n * 2 ^ -1074, for an n above 0
-unfoldable pub rootUnits : ℕ → Float
-unfolding odd halfOf sigOf
-rootUnits n = odd 53 false (sigOf n) (halfOf n + 485) 1074
+unfoldable pub rootOfUnits : ℕ → Float
+unfolding odd halfExponent significand
+rootOfUnits n = odd 53 false (significand n) (halfExponent n + 485) 1074
 
--- a finite value's magnitude in units of 2 ^ -1074
-abbrev pub unitsOf : ℕ → ℤ → ℕ
-unitsOf m e = m * up e * 2 ^ 1074 / down e
+-- the magnitude m * 2 ^ e in units of 2 ^ -1074
+abbrev pub inUnits : ℕ → ℤ → ℕ
+inUnits m e = m * up e * 2 ^ 1074 / down e
 
+-- `squareRoot` of -0 is -0, of any other value below 0 NaN
 unfoldable pub squareRoot : Float → Float
-unfolding rootUnits
+unfolding rootOfUnits
 squareRoot nan = nan
 squareRoot (inf true) = nan
 squareRoot (inf false) = inf false
 squareRoot (fin s zero e) = fin s zero e
 squareRoot (fin true (suc m) e) = nan
-squareRoot (fin false (suc m) e) = rootUnits (unitsOf (suc m) e)
+squareRoot (fin false (suc m) e) = rootOfUnits (inUnits (suc m) e)
