@@ -1,0 +1,52 @@
+//! What crates/host exports, under C's calling convention.
+
+/// `number`: the refusal, 0 for none. `count`: how many of the two values there are.
+#[repr(C)]
+#[derive(Clone, Copy, Debug)]
+pub struct Answer {
+    pub number: u32,
+    pub count: u32,
+    pub first: f64,
+    pub second: f64,
+}
+
+#[repr(C)]
+#[derive(Clone, Copy, Debug)]
+pub struct Bounds {
+    pub present: bool,
+    pub lo: f64,
+    pub hi: f64,
+}
+
+#[repr(C)]
+#[derive(Clone, Copy, Debug)]
+pub struct TimeDifferencePolicy {
+    pub scale: f64,
+    pub relative_step: f64,
+    pub maximum_fraction: f64,
+    pub bounds: Bounds,
+}
+
+// Each is proved safe for every argument, and none takes a pointer.
+unsafe extern "C" {
+    pub safe fn wiqhano_abs(x: f64) -> f64;
+    pub safe fn wiqhano_max(a: f64, b: f64) -> f64;
+    pub safe fn wiqhano_min(a: f64, b: f64) -> f64;
+    pub safe fn wiqhano_clamp(x: f64, lo: f64, hi: f64) -> f64;
+    pub safe fn wiqhano_signum(x: f64) -> f64;
+    pub safe fn wiqhano_is_finite(x: f64) -> bool;
+    pub safe fn wiqhano_is_nan(x: f64) -> bool;
+    pub safe fn wiqhano_sqrt(x: f64) -> f64;
+    pub safe fn wiqhano_checked_time(time: f64, step: f64) -> Answer;
+    pub safe fn wiqhano_endpoint_step(time: f64, endpoint: f64, proposal: f64) -> Answer;
+    pub safe fn wiqhano_default_policy() -> TimeDifferencePolicy;
+    pub safe fn wiqhano_probes(policy: TimeDifferencePolicy, time: f64, step: f64) -> Answer;
+    pub safe fn wiqhano_partial(
+        base: f64,
+        first: f64,
+        second: f64,
+        d1: f64,
+        d2: f64,
+        two: bool,
+    ) -> f64;
+}

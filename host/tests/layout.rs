@@ -1,0 +1,106 @@
+//! The structs that cross the C interface: sizes and offsets, and that each field lands in its place
+//! on the other side.
+#[allow(dead_code)]
+#[path = "../src/ffi.rs"]
+mod ffi;
+
+use ffi::{Answer, Bounds, TimeDifferencePolicy as Policy};
+use std::mem::{align_of, offset_of, size_of};
+use wiqhano as _; // links the archive
+
+#[test]
+fn sizes_and_offsets() {
+    assert_eq!((size_of::<Answer>(), align_of::<Answer>()), (24, 8));
+    assert_eq!(offset_of!(Answer, number), 0);
+    assert_eq!(offset_of!(Answer, count), 4);
+    assert_eq!(offset_of!(Answer, first), 8);
+    assert_eq!(offset_of!(Answer, second), 16);
+
+    assert_eq!((size_of::<Bounds>(), align_of::<Bounds>()), (24, 8));
+    assert_eq!(offset_of!(Bounds, present), 0);
+    assert_eq!(offset_of!(Bounds, lo), 8);
+    assert_eq!(offset_of!(Bounds, hi), 16);
+
+    assert_eq!((size_of::<Policy>(), align_of::<Policy>()), (48, 8));
+    assert_eq!(offset_of!(Policy, scale), 0);
+    assert_eq!(offset_of!(Policy, relative_step), 8);
+    assert_eq!(offset_of!(Policy, maximum_fraction), 16);
+    assert_eq!(offset_of!(Policy, bounds), 24);
+}
+
+#[test]
+fn the_default_policy_comes_back_field_by_field() {
+    let policy = ffi::wiqhano_default_policy();
+    assert_eq!(policy.scale, 1.0);
+    assert_eq!(policy.relative_step.to_bits(), 0x3ed9_65fe_a53d_6e3d);
+    assert_eq!(policy.maximum_fraction, 0.5);
+    assert!(!policy.bounds.present);
+    assert_eq!((policy.bounds.lo, policy.bounds.hi), (0.0, 0.0));
+}
+
+/// A probe's answer at time 0, as its four fields.
+fn probes(policy: Policy, step: f64) -> (u32, u32, f64, f64) {
+    let a = ffi::wiqhano_probes(policy, 0.0, step);
+    (a.number, a.count, a.first, a.second)
+}
+
+#[test]
+fn each_field_of_a_policy_goes_out_to_its_place() {
+    let bounds = |present, lo, hi| Bounds { present, lo, hi };
+    let plain = Policy {
+        scale: 4.0,
+        relative_step: 0.0625,
+        maximum_fraction: 0.5,
+        bounds: bounds(false, 3.0, 2.0),
+    };
+    // 0.0625 of the scale 4; the bounds, which are crossed, are not looked at
+    assert_eq!(probes(plain, 1.0), (0, 2, 0.25, 0.5));
+    let scale = Policy {
+        scale: 2.0,
+        ..plain
+    };
+    assert_eq!(probes(scale, 1.0), (0, 2, 0.125, 0.25));
+    let relative_step = Policy {
+        relative_step: 0.03125,
+        ..plain
+    };
+    assert_eq!(probes(relative_step, 1.0), (0, 2, 0.125, 0.25));
+    let maximum_fraction = Policy {
+        maximum_fraction: 0.0625,
+        ..plain
+    };
+    assert_eq!(probes(maximum_fraction, 1.0), (0, 2, 0.0625, 0.125));
+    let crossed = Policy {
+        bounds: bounds(true, 3.0, 2.0),
+        ..plain
+    };
+    assert_eq!(probes(crossed, 1.0), (4, 0, 0.0, 0.0));
+    let narrow = Policy {
+        bounds: bounds(true, -0.25, 0.125),
+        ..plain
+    };
+    assert_eq!(probes(narrow, 1.0), (0, 2, 0.0625, 0.125)); // hi
+    assert_eq!(probes(narrow, -1.0), (0, 2, -0.125, -0.25)); // lo
+}
+
+#[test]
+fn each_field_of_an_answer_comes_back_from_its_place() {
+    let policy = ffi::wiqhano_default_policy();
+    let tiny = f64::from_bits(1);
+    assert_eq!(probes(policy, tiny), (0, 1, tiny, 0.0));
+    assert_eq!(probes(policy, 0.0), (4, 0, 0.0, 0.0));
+    assert_eq!(probes(policy, f64::NAN), (2, 0, 0.0, 0.0));
+    let a = ffi::wiqhano_endpoint_step(0.0, 1.0, 2.0);
+    assert_eq!((a.number, a.count, a.first, a.second), (0, 1, 1.0, 0.0));
+    let a = ffi::wiqhano_checked_time(1.0, 1e-300);
+    assert_eq!((a.number, a.count, a.first, a.second), (5, 0, 0.0, 0.0));
+}
+
+#[test]
+fn a_bool_goes_out_and_comes_back() {
+    // one slope is 3, the parabola through both gives 2
+    assert_eq!(ffi::wiqhano_partial(0.0, 3.0, 8.0, 1.0, 2.0, false), 3.0);
+    assert_eq!(ffi::wiqhano_partial(0.0, 3.0, 8.0, 1.0, 2.0, true), 2.0);
+    assert!(ffi::wiqhano_is_nan(f64::NAN) && !ffi::wiqhano_is_nan(0.0));
+    assert!(ffi::wiqhano_is_finite(0.0) && !ffi::wiqhano_is_finite(f64::NAN));
+}

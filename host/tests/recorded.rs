@@ -1,0 +1,43 @@
+//! Answers of the original, recorded: NAME.script is what it was given, NAME.answers what it
+//! answered (tools/record). The port answers the same, line for line.
+use wiqhano::protocol::run;
+
+fn replayed(name: &str) {
+    let read = |kind: &str| {
+        let path = format!("tests/recorded/{name}.{kind}");
+        std::fs::read_to_string(&path).unwrap_or_else(|e| panic!("{path}: {e}"))
+    };
+    let (script, recorded) = (read("script"), read("answers"));
+    let mut out = Vec::new();
+    run(script.as_bytes(), &mut out, true).unwrap();
+    let out = String::from_utf8(out).unwrap();
+    let lines: Vec<&str> = out.lines().collect();
+    let mut differing = 0;
+    for (pair, was) in lines.chunks(2).zip(recorded.lines()) {
+        if pair[1] != was {
+            differing += 1;
+            println!("{}\n  port     {}\n  recorded {was}", pair[0], pair[1]);
+        }
+    }
+    assert_eq!(lines.len() / 2, recorded.lines().count(), "answers");
+    println!("replayed {name} {} differing {differing}", lines.len() / 2);
+    assert_eq!(differing, 0);
+}
+
+/// The original's edges and the starred cases, and lines that are wrong.
+#[test]
+fn edges() {
+    replayed("edges");
+}
+
+/// Inputs whose answers show a fused multiply-add, a flush to zero or an extended precision.
+#[test]
+fn telling() {
+    replayed("telling");
+}
+
+/// Random lines.
+#[test]
+fn random() {
+    replayed("random");
+}
