@@ -60,6 +60,11 @@ impl Failure {
     pub fn from_number(number: u32) -> Option<Self> {
         Self::ALL.iter().copied().find(|f| f.number() == number)
     }
+
+    /// The refusal that a call answered.
+    pub(crate) fn told(number: u32) -> Self {
+        Self::from_number(number).expect("a refusal's number")
+    }
 }
 
 impl std::error::Error for Failure {}

@@ -1,9 +1,17 @@
 //! What crates/host exports, under C's calling convention.
 
-/// `number`: the refusal, 0 for none. `count`: how many of the two values there are.
+/// `number`: the refusal, 0 for none.
 #[repr(C)]
 #[derive(Clone, Copy, Debug)]
 pub struct Answer {
+    pub number: u32,
+    pub value: f64,
+}
+
+/// `number`: the refusal, 0 for none. `count`: how many of the two times there are.
+#[repr(C)]
+#[derive(Clone, Copy, Debug)]
+pub struct ProbeTimes {
     pub number: u32,
     pub count: u32,
     pub first: f64,
@@ -40,7 +48,16 @@ unsafe extern "C" {
     pub safe fn wiqhano_checked_time(time: f64, step: f64) -> Answer;
     pub safe fn wiqhano_endpoint_step(time: f64, endpoint: f64, proposal: f64) -> Answer;
     pub safe fn wiqhano_default_policy() -> TimeDifferencePolicy;
-    pub safe fn wiqhano_probes(policy: TimeDifferencePolicy, time: f64, step: f64) -> Answer;
+    pub safe fn wiqhano_probes(
+        scale: f64,
+        relative_step: f64,
+        maximum_fraction: f64,
+        bounded: bool,
+        lo: f64,
+        hi: f64,
+        time: f64,
+        step: f64,
+    ) -> ProbeTimes;
     pub safe fn wiqhano_partial(
         base: f64,
         first: f64,

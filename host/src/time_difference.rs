@@ -26,17 +26,20 @@ impl TimeDifferencePolicy {
     /// The times at which to probe for a step; the second may be absent.
     pub fn probes(self, time: f64, step: f64) -> Result<(f64, Option<f64>), Failure> {
         let (lo, hi) = self.bounds.unwrap_or_default();
-        let policy = ffi::TimeDifferencePolicy {
-            scale: self.scale,
-            relative_step: self.relative_step,
-            maximum_fraction: self.maximum_fraction,
-            bounds: ffi::Bounds {
-                present: self.bounds.is_some(),
-                lo,
-                hi,
-            },
-        };
-        ffi::wiqhano_probes(policy, time, step).values()
+        let times = ffi::wiqhano_probes(
+            self.scale,
+            self.relative_step,
+            self.maximum_fraction,
+            self.bounds.is_some(),
+            lo,
+            hi,
+            time,
+            step,
+        );
+        match times.number {
+            0 => Ok((times.first, (times.count == 2).then_some(times.second))),
+            number => Err(Failure::told(number)),
+        }
     }
 }
 

@@ -4,17 +4,21 @@
 #[path = "../src/ffi.rs"]
 mod ffi;
 
-use ffi::{Answer, Bounds, TimeDifferencePolicy as Policy};
+use ffi::{Answer, Bounds, ProbeTimes, TimeDifferencePolicy as Policy};
 use std::mem::{align_of, offset_of, size_of};
 use wiqhano as _; // links the archive
 
 #[test]
 fn sizes_and_offsets() {
-    assert_eq!((size_of::<Answer>(), align_of::<Answer>()), (24, 8));
+    assert_eq!((size_of::<Answer>(), align_of::<Answer>()), (16, 8));
     assert_eq!(offset_of!(Answer, number), 0);
-    assert_eq!(offset_of!(Answer, count), 4);
-    assert_eq!(offset_of!(Answer, first), 8);
-    assert_eq!(offset_of!(Answer, second), 16);
+    assert_eq!(offset_of!(Answer, value), 8);
+
+    assert_eq!((size_of::<ProbeTimes>(), align_of::<ProbeTimes>()), (24, 8));
+    assert_eq!(offset_of!(ProbeTimes, number), 0);
+    assert_eq!(offset_of!(ProbeTimes, count), 4);
+    assert_eq!(offset_of!(ProbeTimes, first), 8);
+    assert_eq!(offset_of!(ProbeTimes, second), 16);
 
     assert_eq!((size_of::<Bounds>(), align_of::<Bounds>()), (24, 8));
     assert_eq!(offset_of!(Bounds, present), 0);
@@ -40,12 +44,27 @@ fn the_default_policy_comes_back_field_by_field() {
 
 /// A probe's answer at time 0, as its four fields.
 fn probes(policy: Policy, step: f64) -> (u32, u32, f64, f64) {
-    let a = ffi::wiqhano_probes(policy, 0.0, step);
+    let Policy {
+        scale,
+        relative_step,
+        maximum_fraction,
+        bounds: Bounds { present, lo, hi },
+    } = policy;
+    let a = ffi::wiqhano_probes(
+        scale,
+        relative_step,
+        maximum_fraction,
+        present,
+        lo,
+        hi,
+        0.0,
+        step,
+    );
     (a.number, a.count, a.first, a.second)
 }
 
 #[test]
-fn each_field_of_a_policy_goes_out_to_its_place() {
+fn each_number_of_a_policy_goes_out_to_its_place() {
     let bounds = |present, lo, hi| Bounds { present, lo, hi };
     let plain = Policy {
         scale: 4.0,
@@ -91,9 +110,9 @@ fn each_field_of_an_answer_comes_back_from_its_place() {
     assert_eq!(probes(policy, 0.0), (4, 0, 0.0, 0.0));
     assert_eq!(probes(policy, f64::NAN), (2, 0, 0.0, 0.0));
     let a = ffi::wiqhano_endpoint_step(0.0, 1.0, 2.0);
-    assert_eq!((a.number, a.count, a.first, a.second), (0, 1, 1.0, 0.0));
+    assert_eq!((a.number, a.value), (0, 1.0));
     let a = ffi::wiqhano_checked_time(1.0, 1e-300);
-    assert_eq!((a.number, a.count, a.first, a.second), (5, 0, 0.0, 0.0));
+    assert_eq!((a.number, a.value), (5, 0.0));
 }
 
 #[test]

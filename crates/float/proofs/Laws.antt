@@ -97,6 +97,10 @@ unfolding lt ofBits
 lt-zero true e = ap (λ (y : ℕ). ltb 0 (y * 1 + 0 * down e)) (zero-mul (up e)) ∙ ap (λ (y : ℕ). ltb 0 (0 + y)) (zero-mul (down e))
 lt-zero false e = lt-plus 0 e
 
+pub gt-some : (m : ℕ) (e : ℤ) → lt (ofBits binary64 0) (fin false (suc m) e) ≡ true
+unfolding lt ofBits
+gt-some m e = is-true (ltb (0 * 1 * down e) (suc m * up e * 1)) (lt→ltb (0 * 1 * down e) (suc m * up e * 1) (subst (λ (y : ℕ). y < suc m * up e * 1) (sym (zero-mul (down e))) (some m e)))
+
 pub eq-some : (s : Bool) (m : ℕ) (e : ℤ) → eq (fin s (suc m) e) (ofBits binary64 0) ≡ false
 unfolding eq ofBits
 eq-some s m e =
@@ -127,14 +131,6 @@ unfolding fits
 zero-exp f s e t = flat e (eqb→eq (up e * down e) 1 t)
 
 -- ---- abs
-pub abs-minus : (x : Float) → lt x (ofBits binary64 0) ≡ true → neg x ≡ abs x
-unfolding neg abs
-abs-minus nan e = unfold lt in absurd (false≢true e)
-abs-minus (inf true) e = refl
-abs-minus (inf false) e = unfold lt ofBits in absurd (false≢true e)
-abs-minus (fin true m d) e = refl
-abs-minus (fin false m d) e = never e (lt-plus m d)
-
 pub abs-zero : (x : Float) → T (fits binary64 x) → eq x (ofBits binary64 0) ≡ true → ofBits binary64 0 ≡ abs x
 unfolding abs
 abs-zero nan f e = unfold eq in absurd (false≢true e)
@@ -142,14 +138,20 @@ abs-zero (inf s) f e = unfold eq ofBits in absurd (false≢true e)
 abs-zero (fin s zero d) f e = unfold ofBits in ap (λ (z : ℤ). fin false 0 z) (sym (zero-exp binary64 s d f))
 abs-zero (fin s (suc m) d) f e = never e (eq-some s m d)
 
-pub abs-plus : (x : Float) → lt x (ofBits binary64 0) ≡ false → eq x (ofBits binary64 0) ≡ false → x ≡ abs x
+pub abs-above : (x : Float) → lt (ofBits binary64 0) x ≡ true → x ≡ abs x
 unfolding abs
-abs-plus nan l e = refl
-abs-plus (inf true) l e = unfold lt ofBits in absurd (true≢false l)
-abs-plus (inf false) l e = refl
-abs-plus (fin true zero d) l e = never (eq-zero true d) e
-abs-plus (fin true (suc m) d) l e = never (lt-minus m d) l
-abs-plus (fin false m d) l e = refl
+abs-above nan h = unfold lt ofBits in absurd (false≢true h)
+abs-above (inf true) h = unfold lt ofBits in absurd (false≢true h)
+abs-above (inf false) h = refl
+abs-above (fin true m e) h = unfold lt ofBits in absurd (false≢true h)
+abs-above (fin false m e) h = refl
+
+pub abs-fits : (x : Float) → T (fits binary64 x) → T (fits binary64 (abs x))
+unfolding abs fits
+abs-fits nan f = f
+abs-fits (inf s) f = f
+abs-fits (fin s zero e) f = f
+abs-fits (fin s (suc m) e) f = f
 
 -- ---- signum
 pub sign-nan : (x : Float) → ne x x ≡ true → x ≡ signum x

@@ -83,10 +83,3 @@ mul-plain (inf s) (fin t n d) h k = nan-or (eqb n 0) (unlike s t) (plain-like s 
 mul-plain (fin s m e) nan h k = refl
 mul-plain (fin s m e) (inf t) h k = nan-or (eqb m 0) (unlike s t) (plain-like s t h k)
 mul-plain (fin s m e) (fin t n d) h k = round-sign binary64 (unlike s t) (m * up e * (n * up d)) (down e * down d) ∙ plain-like s t h k
-
-pub abs-fits : (x : Float) → T (fits binary64 x) → T (fits binary64 (abs x))
-unfolding abs fits
-abs-fits nan f = f
-abs-fits (inf s) f = f
-abs-fits (fin s zero e) f = f
-abs-fits (fin s (suc m) e) f = f

@@ -26,16 +26,11 @@ pub fn is_finite(x: f64) -> bool
     x - x == 0.0
 }
 
+// 0 - x is exact, and +0 where x is a zero of either sign.
 pub fn abs(x: f64) -> f64
     ensures { λ r. ⌜ r ≡ abs x ⌝ }
 {
-    if x < 0.0 {
-        return -x;
-    }
-    if x == 0.0 {
-        return 0.0;
-    }
-    x
+    if x > 0.0 { x } else { 0.0 - x }
 }
 
 // The number, where one of the two is a NaN.

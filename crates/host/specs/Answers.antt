@@ -1,34 +1,38 @@
--- What is handed to the host for each answer: the refusal's number, 0 for none; how many values there are; the values, 0 for one that is not there.
+-- What is handed to the host for each answer: the refusal's number, 0 for none; how many values there are, where it may be two; the values, 0 for
+-- one that is not there.
 -- Definitions only.
-use Prim.Native.Nat.{ℕ}
+use mathlib.Core.Bool.{Bool}
 use lib.Ieee.{Float}
 use Rattle.float.specs.Operators.{𝟎}
 use Rattle.stepping.specs.declared.Checked.{Checked}
 use Rattle.stepping.specs.declared.Checked.the-variants as checked
 use Rattle.stepping.specs.declared.Endpoint.{Endpoint}
 use Rattle.stepping.specs.declared.Endpoint.the-variants as endpoint
+use Rattle.time_difference.specs.declared.TimeDifferencePolicy.{TimeDifferencePolicy}
 use Rattle.time_difference.specs.declared.Probes.{Probes}
 use Rattle.time_difference.specs.declared.Probes.the-variants as probes
 use Rattle.host.specs.declared.Answer.{Answer}
-
-abbrev pub refused : ℕ → Answer
-refused k = record { number = k; count = 0; first = 𝟎; second = 𝟎 }
-
-abbrev pub one : Float → Answer
-one x = record { number = 0; count = 1; first = x; second = 𝟎 }
-
-abbrev pub two : Float → Float → Answer
-two x y = record { number = 0; count = 2; first = x; second = y }
+use Rattle.host.specs.declared.ProbeTimes.{ProbeTimes}
 
 unfoldable pub ofChecked : Checked → Answer
-ofChecked (checked.At end) = one end
-ofChecked (checked.Refused k) = refused k
+ofChecked (checked.At end) = record { number = 0; value = end }
+ofChecked (checked.Refused k) = record { number = k; value = 𝟎 }
 
 unfoldable pub ofEndpoint : Endpoint → Answer
-ofEndpoint (endpoint.Step step) = one step
-ofEndpoint (endpoint.Refused k) = refused k
+ofEndpoint (endpoint.Step step) = record { number = 0; value = step }
+ofEndpoint (endpoint.Refused k) = record { number = k; value = 𝟎 }
 
-unfoldable pub ofProbes : Probes → Answer
-ofProbes (probes.One first) = one first
-ofProbes (probes.Two first second) = two first second
-ofProbes (probes.Refused k) = refused k
+unfoldable pub ofProbes : Probes → ProbeTimes
+ofProbes (probes.One first) = record { number = 0; count = 1; first = first; second = 𝟎 }
+ofProbes (probes.Two first second) = record { number = 0; count = 2; first = first; second = second }
+ofProbes (probes.Refused k) = record { number = k; count = 0; first = 𝟎; second = 𝟎 }
+
+-- the policy that the host hands over as its numbers
+abbrev pub policyOf : Float → Float → Float → Bool → Float → Float → TimeDifferencePolicy
+policyOf scale relative fraction bounded lo hi =
+    record {
+      scale = scale;
+      «relative_step» = relative;
+      «maximum_fraction» = fraction;
+      bounds = record { present = bounded; lo = lo; hi = hi };
+    }

@@ -8,53 +8,28 @@ ghost use Rattle.square_root.specs.Root.{squareRoot};
 ghost use Rattle.stepping.specs.Time.{checkedTime, endpointStep};
 ghost use Rattle.time_difference.specs.Policy.{defaultPolicy, probes};
 ghost use Rattle.time_difference.specs.Probes.{partial};
-ghost use Rattle.host.specs.Answers.{refused, one, two, ofChecked, ofEndpoint, ofProbes};
+ghost use Rattle.host.specs.Answers.{ofChecked, ofEndpoint, ofProbes, policyOf};
 use stepping::Checked;
 use stepping::Endpoint;
+use time_difference::Bounds;
 use time_difference::Probes;
 use time_difference::TimeDifferencePolicy;
 
-// number: the refusal, 0 for none. count: how many of the two values there are; a value that is not
-// there is 0.
+// number: the refusal, 0 for none. value: 0 where it is refused.
 #[repr(C)]
 pub struct Answer {
+    pub number: u32,
+    pub value: f64,
+}
+
+// number: the refusal, 0 for none. count: how many of the two times there are; one that is not there
+// is 0.
+#[repr(C)]
+pub struct ProbeTimes {
     pub number: u32,
     pub count: u32,
     pub first: f64,
     pub second: f64,
-}
-
-fn refused(number: u32) -> Answer
-    ensures { λ r. ⌜ r ≡ refused number ⌝ }
-{
-    Answer {
-        number,
-        count: 0,
-        first: 0.0,
-        second: 0.0,
-    }
-}
-
-fn one(first: f64) -> Answer
-    ensures { λ r. ⌜ r ≡ one first ⌝ }
-{
-    Answer {
-        number: 0,
-        count: 1,
-        first,
-        second: 0.0,
-    }
-}
-
-fn two(first: f64, second: f64) -> Answer
-    ensures { λ r. ⌜ r ≡ two first second ⌝ }
-{
-    Answer {
-        number: 0,
-        count: 2,
-        first,
-        second,
-    }
 }
 
 #[no_mangle]
@@ -118,8 +93,11 @@ pub extern "C" fn wiqhano_checked_time(time: f64, step: f64) -> Answer
     ensures { λ r. ⌜ r ≡ ofChecked (checkedTime time step) ⌝ }
 {
     match stepping::checked_time(time, step) {
-        Checked::At(end) => one(end),
-        Checked::Refused(number) => refused(number),
+        Checked::At(end) => Answer {
+            number: 0,
+            value: end,
+        },
+        Checked::Refused(number) => Answer { number, value: 0.0 },
     }
 }
 
@@ -128,8 +106,11 @@ pub extern "C" fn wiqhano_endpoint_step(time: f64, endpoint: f64, proposal: f64)
     ensures { λ r. ⌜ r ≡ ofEndpoint (endpointStep time endpoint proposal) ⌝ }
 {
     match stepping::endpoint_step(time, endpoint, proposal) {
-        Endpoint::Step(step) => one(step),
-        Endpoint::Refused(number) => refused(number),
+        Endpoint::Step(step) => Answer {
+            number: 0,
+            value: step,
+        },
+        Endpoint::Refused(number) => Answer { number, value: 0.0 },
     }
 }
 
@@ -140,14 +121,50 @@ pub extern "C" fn wiqhano_default_policy() -> TimeDifferencePolicy
     TimeDifferencePolicy::default()
 }
 
+// The policy comes as its numbers, which stay in registers.
 #[no_mangle]
-pub extern "C" fn wiqhano_probes(policy: TimeDifferencePolicy, time: f64, step: f64) -> Answer
-    ensures { λ r. ⌜ r ≡ ofProbes (probes policy time step) ⌝ }
+pub extern "C" fn wiqhano_probes(
+    scale: f64,
+    relative_step: f64,
+    maximum_fraction: f64,
+    bounded: bool,
+    lo: f64,
+    hi: f64,
+    time: f64,
+    step: f64,
+) -> ProbeTimes
+    ensures { λ r. ⌜ r ≡ ofProbes (probes (policyOf scale «relative_step» «maximum_fraction» bounded lo hi) time step) ⌝ }
 {
+    let bounds = Bounds {
+        present: bounded,
+        lo,
+        hi,
+    };
+    let policy = TimeDifferencePolicy {
+        scale,
+        relative_step,
+        maximum_fraction,
+        bounds,
+    };
     match policy.probes(time, step) {
-        Probes::One(first) => one(first),
-        Probes::Two(first, second) => two(first, second),
-        Probes::Refused(number) => refused(number),
+        Probes::One(first) => ProbeTimes {
+            number: 0,
+            count: 1,
+            first,
+            second: 0.0,
+        },
+        Probes::Two(first, second) => ProbeTimes {
+            number: 0,
+            count: 2,
+            first,
+            second,
+        },
+        Probes::Refused(number) => ProbeTimes {
+            number,
+            count: 0,
+            first: 0.0,
+            second: 0.0,
+        },
     }
 }
 

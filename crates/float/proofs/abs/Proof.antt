@@ -1,18 +1,16 @@
 -- `float::abs` meets its contract. Assumes nothing.
 use mathlib.Core.Path.{sym, subst}
 use lib.Dec.{T}
-use Rattle.float.proofs.Laws.{abs-minus, abs-zero, abs-plus}
+use Rattle.float.proofs.Laws.{abs-above}
+use Rattle.float.proofs.Own.{abs-rest}
 use Rattle.float.proofs.abs.Statement.{statement}
 use Rattle.float.proofs.abs.Tie as tie
 
 returns : tie.Need-returns
-returns c = abs-minus (c .before .args .x) (c .if1 .taken)
+returns c = abs-above (c .before .args .x) (c .if1 .taken)
 
 returns-2 : tie.Need-returns-2
-returns-2 c = abs-zero (c .before .before .args .x) (subst T (sym (c .before .before .good .0 .1)) tt) (c .if2 .taken)
-
-returns-3 : tie.Need-returns-3
-returns-3 c = abs-plus (c .before .before .args .x) (c .before .if1 .left) (c .if2 .left)
+returns-2 c = abs-rest (c .before .args .x) (subst T (sym (c .before .good .0 .1)) tt) (c .if1 .left)
 
 pub abs-spec : {M : Type 1} → statement M
-abs-spec = tie.close (tie.spec returns returns-2 returns-3)
+abs-spec = tie.close (tie.spec returns returns-2)

@@ -11,31 +11,17 @@ checked-time-requires c κs = search needs
 enum-known-end : tie.Need-enum-known-end
 enum-known-end c = search needs
 
-one-requires : tie.Need-one-requires
-one-requires c κs = search needs
-
 enum-known-number : tie.Need-enum-known-number
 enum-known-number c = search needs
 
-refused-requires : tie.Need-refused-requires
-refused-requires c κs = search needs
-
 returns : tie.Need-returns
 unfolding ofChecked
-returns c = c .one .ensures ∙ ap ofChecked (sym (c .before .before .end .given .1) ∙ c .before .before .before .before .checked-time .ensures)
+returns c = ap ofChecked (sym (c .before .end .given .1) ∙ c .before .before .before .checked-time .ensures)
 
 returns-2 : tie.Need-returns-2
 unfolding ofChecked
-returns-2 c = c .refused .ensures ∙ ap ofChecked (sym (c .before .before .number .given .1) ∙ c .before .before .before .before .checked-time .ensures)
+returns-2 c = ap ofChecked (sym (c .before .number .given .1) ∙ c .before .before .before .checked-time .ensures)
 
 pub wiqhano-checked-time-spec : {M : Type 1} → statement M
 wiqhano-checked-time-spec =
-    tie.close
-    (tie.spec
-    checked-time-requires
-    enum-known-end
-    one-requires
-    enum-known-number
-    refused-requires
-    returns
-    returns-2)
+    tie.close (tie.spec checked-time-requires enum-known-end enum-known-number returns returns-2)

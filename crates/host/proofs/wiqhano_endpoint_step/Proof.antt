@@ -11,31 +11,17 @@ endpoint-step-requires c κs = search needs
 enum-known-step : tie.Need-enum-known-step
 enum-known-step c = search needs
 
-one-requires : tie.Need-one-requires
-one-requires c κs = search needs
-
 enum-known-number : tie.Need-enum-known-number
 enum-known-number c = search needs
 
-refused-requires : tie.Need-refused-requires
-refused-requires c κs = search needs
-
 returns : tie.Need-returns
 unfolding ofEndpoint
-returns c = c .one .ensures ∙ ap ofEndpoint (sym (c .before .before .step .given .1) ∙ c .before .before .before .before .endpoint-step .ensures)
+returns c = ap ofEndpoint (sym (c .before .step .given .1) ∙ c .before .before .before .endpoint-step .ensures)
 
 returns-2 : tie.Need-returns-2
 unfolding ofEndpoint
-returns-2 c = c .refused .ensures ∙ ap ofEndpoint (sym (c .before .before .number .given .1) ∙ c .before .before .before .before .endpoint-step .ensures)
+returns-2 c = ap ofEndpoint (sym (c .before .number .given .1) ∙ c .before .before .before .endpoint-step .ensures)
 
 pub wiqhano-endpoint-step-spec : {M : Type 1} → statement M
 wiqhano-endpoint-step-spec =
-    tie.close
-    (tie.spec
-    endpoint-step-requires
-    enum-known-step
-    one-requires
-    enum-known-number
-    refused-requires
-    returns
-    returns-2)
+    tie.close (tie.spec endpoint-step-requires enum-known-step enum-known-number returns returns-2)

@@ -11,32 +11,23 @@ probes-requires c κs = search needs
 enum-known-first : tie.Need-enum-known-first
 enum-known-first c = search needs
 
-one-requires : tie.Need-one-requires
-one-requires c κs = search needs
-
 enum-known-first-2 : tie.Need-enum-known-first-2
 enum-known-first-2 c = search needs
-
-two-requires : tie.Need-two-requires
-two-requires c κs = search needs
 
 enum-known-number : tie.Need-enum-known-number
 enum-known-number c = search needs
 
-refused-requires : tie.Need-refused-requires
-refused-requires c κs = search needs
-
 returns : tie.Need-returns
 unfolding ofProbes
-returns c = c .one .ensures ∙ ap ofProbes (sym (c .before .before .first .given .1) ∙ c .before .before .before .before .probes .ensures)
+returns c = ap ofProbes (sym (c .before .first .given .1) ∙ c .before .before .before .probes .ensures)
 
 returns-2 : tie.Need-returns-2
 unfolding ofProbes
-returns-2 c = c .two .ensures ∙ ap ofProbes (sym (c .before .before .first2 .given .1) ∙ c .before .before .before .before .probes .ensures)
+returns-2 c = ap ofProbes (sym (c .before .first2 .given .1) ∙ c .before .before .before .probes .ensures)
 
 returns-3 : tie.Need-returns-3
 unfolding ofProbes
-returns-3 c = c .refused .ensures ∙ ap ofProbes (sym (c .before .before .number .given .1) ∙ c .before .before .before .before .probes .ensures)
+returns-3 c = ap ofProbes (sym (c .before .number .given .1) ∙ c .before .before .before .probes .ensures)
 
 pub wiqhano-probes-spec : {M : Type 1} → statement M
 wiqhano-probes-spec =
@@ -44,11 +35,8 @@ wiqhano-probes-spec =
     (tie.spec
     probes-requires
     enum-known-first
-    one-requires
     enum-known-first-2
-    two-requires
     enum-known-number
-    refused-requires
     returns
     returns-2
     returns-3)
