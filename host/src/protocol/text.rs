@@ -23,6 +23,16 @@ pub fn vector(v: &[f64]) -> String {
     )
 }
 
+pub fn numbers(v: &[usize]) -> String {
+    format!(
+        "[{}]",
+        v.iter()
+            .map(|x| x.to_string())
+            .collect::<Vec<_>>()
+            .join(",")
+    )
+}
+
 // ---- in
 
 pub fn to_double(token: &str) -> Result<f64, String> {
@@ -43,14 +53,18 @@ pub fn to_option(token: &str) -> Result<Option<f64>, String> {
     }
 }
 
-pub fn to_vector(token: &str) -> Result<Vec<f64>, String> {
+fn elements<T>(token: &str, to: impl Fn(&str) -> Result<T, String>) -> Result<Vec<T>, String> {
     let inner = token.strip_prefix('[').and_then(|t| t.strip_suffix(']'));
     let inner = inner.ok_or_else(|| format!("vector {token}"))?;
-    inner
-        .split(',')
-        .filter(|x| !x.is_empty())
-        .map(to_double)
-        .collect()
+    inner.split(',').filter(|x| !x.is_empty()).map(to).collect()
+}
+
+pub fn to_vector(token: &str) -> Result<Vec<f64>, String> {
+    elements(token, to_double)
+}
+
+pub fn to_numbers(token: &str) -> Result<Vec<usize>, String> {
+    elements(token, |x| x.parse().map_err(|_| format!("integer {x}")))
 }
 
 /// A line's words: those of the form `key=value` by their keys, the others by their places, of
@@ -89,6 +103,15 @@ impl<'a> Args<'a> {
 
     pub fn vector(&self, i: usize) -> Result<Vec<f64>, String> {
         to_vector(self.token(i)?)
+    }
+
+    pub fn numbers(&self, i: usize) -> Result<Vec<usize>, String> {
+        to_numbers(self.token(i)?)
+    }
+
+    pub fn number(&self, i: usize) -> Result<usize, String> {
+        let number = self.token(i)?.parse();
+        number.map_err(|_| format!("integer argument {i}"))
     }
 
     pub fn named_double(&self, key: &str, default: f64) -> Result<f64, String> {
@@ -141,5 +164,8 @@ mod tests {
         assert!(to_vector("=1").is_err());
         assert_eq!(vector(&[0.0, -0.0]), "[0000000000000000,8000000000000000]");
         assert_eq!(vector(&[]), "[]");
+        assert_eq!(to_numbers("[0,31]"), Ok(vec![0, 31]));
+        assert_eq!(numbers(&[0, 31]), "[0,31]");
+        assert!(to_numbers("[-1]").is_err());
     }
 }
