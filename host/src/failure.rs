@@ -62,6 +62,7 @@ impl Failure {
     }
 
     /// The refusal that a call answered.
+    #[cold]
     pub(crate) fn told(number: u32) -> Self {
         Self::from_number(number).expect("a refusal's number")
     }

@@ -24,6 +24,7 @@ impl Default for TimeDifferencePolicy {
 
 impl TimeDifferencePolicy {
     /// The times at which to probe for a step; the second may be absent.
+    #[inline]
     pub fn probes(self, time: f64, step: f64) -> Result<(f64, Option<f64>), Failure> {
         let (lo, hi) = self.bounds.unwrap_or_default();
         let times = ffi::wiqhano_probes(
@@ -44,6 +45,7 @@ impl TimeDifferencePolicy {
 }
 
 /// The time partial from one probed value at the distance d1, or from two, the second at d2.
+#[inline]
 pub fn partial(base: f64, first: f64, second: Option<f64>, d1: f64, d2: Option<f64>) -> f64 {
     match (second, d2) {
         (Some(second), Some(d2)) => ffi::wiqhano_partial(base, first, second, d1, d2, true),

@@ -8,7 +8,7 @@ use lib.IntN.{ℤ, pos, negsuc}
 use lib.Dec.{T, eqb, ltb, ltb→lt, lt→ltb, eqb→eq, eqb-refl, not-T}
 use lib.Arith.{le→nltb}
 use lib.Pow.{pow-pos}
-use lib.Ieee.{Float, nan, inf, fin, Format, binary64, low, emax, up, down, round, isNan, fits, eq, ne, lt, add, sub, sum, neg, div, ofBits}
+use lib.Ieee.{Float, nan, inf, fin, Format, binary64, low, emax, up, down, round, isNan, fits, eq, ne, lt, le, add, sub, sum, neg, div, ofBits}
 use lib.Ieee.Fits.{up-pos, down-pos, round-fits}
 use lib.Ieee.Bits.{is-true, is-false}
 use lib.Ieee.Exact.{HasValue, round-exact}
@@ -47,7 +47,7 @@ round-zero f s d D =
     (round-exact f s 0 d 0 0 D (pow-pos _) (subst (λ (y : ℕ). y < 2 ^ (low f + suc (emax f))) (sym (zero-mul (2 ^ 0))) (pow-pos (low f + suc (emax f)))) (zero-mul (2 ^ low f) ∙ sym (zero-mul d))))
     (refl, refl)
 
--- ---- `x - x == 0.0`
+-- ---- `x - x >= 0.0`
 unlike-self : (s : Bool) → Bool·beq s (not s) ≡ false
 unlike-self true = refl
 unlike-self false = refl
@@ -67,12 +67,12 @@ minus-self s m e =
     same : (a : ℕ) → a ≤ a
     same a = omega arith
 
-pub finite-is : (x : Float) → eq (sub binary64 x x) (ofBits binary64 0) ≡ finite x
-unfolding eq ofBits
+pub finite-is : (x : Float) → le (ofBits binary64 0) (sub binary64 x x) ≡ finite x
+unfolding le lt eq ofBits
 finite-is nan = unfold sub add in refl
 finite-is (inf true) = unfold sub add neg in refl
 finite-is (inf false) = unfold sub add neg in refl
-finite-is (fin s m e) = ap (λ (y : Float). eq y (fin false 0 (pos 0))) (minus-self s m e)
+finite-is (fin s m e) = ap (λ (y : Float). le (fin false 0 (pos 0)) y) (minus-self s m e)
 
 -- ---- below zero, a zero, or neither
 pub some : (m : ℕ) (e : ℤ) → 0 < suc m * up e * 1
