@@ -66,6 +66,15 @@ impl Failure {
     pub(crate) fn told(number: u32) -> Self {
         Self::from_number(number).expect("a refusal's number")
     }
+
+    /// What a call answered that has no other answer: 0, or a refusal.
+    #[inline]
+    pub(crate) fn unless_0(number: u32) -> Result<(), Self> {
+        match number {
+            0 => Ok(()),
+            number => Err(Self::told(number)),
+        }
+    }
 }
 
 impl std::error::Error for Failure {}

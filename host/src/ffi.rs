@@ -35,7 +35,15 @@ pub struct TimeDifferencePolicy {
     pub bounds: Bounds,
 }
 
-// Each is proved safe for every argument, and none takes a pointer.
+/// `number`: the refusal, 0 for none.
+#[repr(C)]
+#[derive(Clone, Copy, Debug)]
+pub struct SameAnswer {
+    pub number: u32,
+    pub same: bool,
+}
+
+// Each is proved safe for every argument, and these take no pointer.
 unsafe extern "C" {
     pub safe fn wiqhano_abs(x: f64) -> f64;
     pub safe fn wiqhano_max(a: f64, b: f64) -> f64;
@@ -66,4 +74,38 @@ unsafe extern "C" {
         d2: f64,
         two: bool,
     ) -> f64;
+}
+
+// A slice is a pointer and a length. Each stays within the slices that it is lent, and keeps none.
+unsafe extern "C" {
+    pub fn wiqhano_factorize(
+        matrix: *mut f64,
+        matrix_len: usize,
+        pivots: *mut usize,
+        pivots_len: usize,
+        n: usize,
+    ) -> u32;
+    pub fn wiqhano_factorize_raw(
+        matrix: *mut f64,
+        matrix_len: usize,
+        pivots: *mut usize,
+        pivots_len: usize,
+        n: usize,
+    ) -> u32;
+    pub fn wiqhano_solve(
+        factors: *const f64,
+        factors_len: usize,
+        pivots: *const usize,
+        pivots_len: usize,
+        rhs: *mut f64,
+        rhs_len: usize,
+        n: usize,
+    ) -> u32;
+    pub fn wiqhano_tableau_check(file: *const u8, file_len: usize) -> u32;
+    pub fn wiqhano_tableau_same(
+        first: *const u8,
+        first_len: usize,
+        second: *const u8,
+        second_len: usize,
+    ) -> SameAnswer;
 }

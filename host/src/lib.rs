@@ -3,10 +3,12 @@
 mod failure;
 mod ffi;
 pub mod float;
+pub mod linear;
 pub mod protocol;
 pub mod random;
 pub mod script;
 mod stepping;
+pub mod tableau;
 mod time_difference;
 
 pub use failure::Failure;

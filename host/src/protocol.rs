@@ -2,9 +2,10 @@
 //! the port does not have is answered `bad command NAME`.
 pub mod text;
 
+use crate::linear::{self, DenseLu};
 use crate::{Failure, TimeDifferencePolicy, checked_time, endpoint_step, partial, sqrt};
 use std::io::{self, BufRead, Write};
-use text::{Args, double, option};
+use text::{Args, double, numbers, option, vector};
 
 /// What a command answers; `Err` where the line is wrong and nothing was called.
 pub type Answer = Result<String, String>;
@@ -30,6 +31,10 @@ impl Host {
             "checked_time" => self.checked_time(args),
             "probes" => self.probes(args),
             "partial" => self.partial(args),
+            "lu" => self.lu(args),
+            "lusolve" => self.lusolve(args),
+            "rawlu" => self.rawlu(args),
+            "rawsolve" => self.rawsolve(args),
             _ => Err(format!("command {name}")),
         }
     }
@@ -69,6 +74,57 @@ impl Host {
             args.option(5)?,
         );
         Ok(format!("ok {}", double(value)))
+    }
+
+    fn lu(&mut self, args: &Args<'_>) -> Answer {
+        let (n, matrix) = (args.number(1)?, args.vector(2)?);
+        Ok(match DenseLu::factorize(n, &matrix) {
+            Ok(lu) => format!("ok {} {}", vector(lu.factors()), numbers(lu.pivots())),
+            Err(failure) => not_factored(failure, n * n, matrix.len()),
+        })
+    }
+
+    fn lusolve(&mut self, args: &Args<'_>) -> Answer {
+        let (n, matrix, mut x) = (args.number(1)?, args.vector(2)?, args.vector(3)?);
+        Ok(match DenseLu::factorize(n, &matrix) {
+            Ok(lu) => match lu.solve(&mut x) {
+                Ok(()) => format!("ok {}", vector(&x)),
+                Err(failure) => not_factored(failure, n, x.len()),
+            },
+            Err(failure) => not_factored(failure, n * n, matrix.len()),
+        })
+    }
+
+    fn rawlu(&mut self, args: &Args<'_>) -> Answer {
+        let (n, mut pivots, mut matrix) = (args.number(1)?, args.numbers(2)?, args.vector(3)?);
+        let told = refused(linear::factorize_raw(&mut matrix, &mut pivots, n));
+        Ok(format!("{told} {} {}", vector(&matrix), numbers(&pivots)))
+    }
+
+    fn rawsolve(&mut self, args: &Args<'_>) -> Answer {
+        let (n, factors) = (args.number(1)?, args.vector(2)?);
+        let (pivots, mut x) = (args.numbers(3)?, args.vector(4)?);
+        let told = refused(linear::solve(&factors, &pivots, &mut x, n));
+        Ok(format!("{told} {}", vector(&x)))
+    }
+}
+
+/// `ok`, or `err` and the refusal.
+fn refused(answer: Result<(), Failure>) -> String {
+    match answer {
+        Ok(()) => "ok".into(),
+        Err(failure) => format!("err {} {}", failure.number(), failure.name()),
+    }
+}
+
+/// A refusal of `lu` and `lusolve`, in the original's words for a length and for an entry.
+fn not_factored(failure: Failure, expected: usize, actual: usize) -> String {
+    match failure {
+        Failure::Dimension if expected != actual => {
+            format!("err 1 LengthMismatch {{ expected: {expected}, actual: {actual} }}")
+        }
+        Failure::NonFinite => "err 2 NonFiniteCoefficient".into(),
+        failure => refused(Err(failure)),
     }
 }
 

@@ -1,5 +1,5 @@
 //! Random lines of the protocol for each command, and the kinds of answer that they must reach.
-use crate::protocol::text::{double, option};
+use crate::protocol::text::{double, numbers, option, vector};
 use crate::random::{Random, power, ulp};
 
 pub struct Command {
@@ -48,13 +48,34 @@ pub const COMMANDS: &[Command] = &[
             "two NaN",
         ],
     },
+    Command {
+        name: "lu",
+        line: lu,
+        classes: &["ok", "err 1", "err 2", "err 6"],
+    },
+    Command {
+        name: "lusolve",
+        line: lusolve,
+        classes: &["ok", "err 1", "err 2", "err 6"],
+    },
+    Command {
+        name: "rawlu",
+        line: rawlu,
+        classes: &["ok", "err 6"],
+    },
+    Command {
+        name: "rawsolve",
+        line: rawsolve,
+        classes: &["ok"],
+    },
 ];
 
 /// The kind of an answer: the refusal's number, how many values, or what the one value is.
 pub fn class(line: &str, answer: &str) -> String {
     let words: Vec<&str> = answer.split(' ').collect();
     let kind = match words[..] {
-        ["err", number, _] => return format!("err {number}"),
+        ["err", number, ..] => return format!("err {number}"),
+        ["ok", x, ..] if x.starts_with('[') => return "ok".into(),
         ["ok", _, "-"] => "one",
         ["ok", _, _] => "two",
         ["ok", x] => u64::from_str_radix(x, 16).map_or("no number", |x| kind(f64::from_bits(x))),
@@ -250,4 +271,120 @@ fn beside(r: &mut Random, base: f64) -> f64 {
         4 => r.subnormal(),
         _ => r.finite(),
     }
+}
+
+// ---- matrices
+
+/// Mostly small: a line of n = 32 is some 17,000 characters.
+fn dimension(r: &mut Random) -> usize {
+    let most = if r.chance(95) { 6 } else { 32 };
+    1 + r.below(most) as usize
+}
+
+/// An n by n matrix of one kind, by rows.
+fn matrix(r: &mut Random, n: usize) -> Vec<f64> {
+    let mut m: Vec<f64> = match r.below(9) {
+        // whole numbers: ties, zeros, singular ones
+        0 => (0..n * n).map(|_| r.below(5) as f64 - 2.0).collect(),
+        // the two zeros among them
+        1 => (0..n * n)
+            .map(|_| r.pick(&[0.0, -0.0, 1.0, -1.0]))
+            .collect(),
+        2 => (0..n * n).map(|_| r.subnormal()).collect(),
+        // overflow inside the elimination
+        3 => (0..n * n)
+            .map(|_| r.sign() * r.unit() * power(1020 + r.below(4) as i64))
+            .collect(),
+        4 => (0..n * n).map(|_| r.finite()).collect(),
+        // the identity and a little, as a stepper has it
+        5 => (0..n * n)
+            .map(|k| (k % (n + 1) == 0) as u64 as f64 - (r.unit() - 0.5) * power(-3))
+            .collect(),
+        _ => (0..n * n).map(|_| r.unit() * 2.0 - 1.0).collect(),
+    };
+    let row = |r: &mut Random| r.below(n as u64) as usize * n;
+    match r.below(8) {
+        // one row is another, or nearly
+        0 | 1 => {
+            let (from, to) = (row(r), row(r));
+            let gap = r.pick(&[0.0, power(-53), power(-51), power(-48), power(-40)]);
+            for k in 0..n {
+                m[to + k] = m[from + k] * (1.0 + gap * r.unit());
+            }
+        }
+        // a column is nothing, or nearly
+        2 => {
+            let (column, by) = (
+                row(r) / n,
+                r.pick(&[0.0, power(-52), power(-50), power(-1000)]),
+            );
+            m.iter_mut().skip(column).step_by(n).for_each(|x| *x *= by);
+        }
+        _ => {}
+    }
+    m
+}
+
+/// With an entry that is not finite.
+fn spoilt(r: &mut Random, mut m: Vec<f64>) -> Vec<f64> {
+    let k = r.below(m.len() as u64) as usize;
+    m[k] = r.pick(&[f64::NAN, f64::INFINITY, f64::NEG_INFINITY]);
+    m
+}
+
+fn doubles(r: &mut Random, n: usize) -> Vec<f64> {
+    (0..n).map(|_| r.double()).collect()
+}
+
+/// A matrix for the forms that test it, wrong in a few of a hundred.
+fn tested(r: &mut Random, n: usize) -> Vec<f64> {
+    let mut m = matrix(r, n);
+    match r.below(20) {
+        0 => spoilt(r, m),
+        1 => {
+            m.truncate(r.below(m.len() as u64) as usize);
+            m
+        }
+        _ => m,
+    }
+}
+
+fn lu(r: &mut Random) -> String {
+    let n = dimension(r);
+    format!("lu {n} {}", vector(&tested(r, n)))
+}
+
+fn lusolve(r: &mut Random) -> String {
+    let n = dimension(r);
+    let m = tested(r, n);
+    let rhs = if r.chance(97) { n } else { n - 1 };
+    format!("lusolve {n} {} {}", vector(&m), vector(&doubles(r, rhs)))
+}
+
+fn rawlu(r: &mut Random) -> String {
+    let n = dimension(r);
+    let mut m = matrix(r, n);
+    if r.chance(30) {
+        m = spoilt(r, m);
+    }
+    let before: Vec<usize> = (0..n).map(|_| r.below(40) as usize).collect();
+    format!("rawlu {n} {} {}", numbers(&before), vector(&m))
+}
+
+/// Any factors, and any pivots in range.
+fn rawsolve(r: &mut Random) -> String {
+    let n = dimension(r);
+    let factors = if r.chance(50) {
+        matrix(r, n)
+    } else {
+        doubles(r, n * n)
+    };
+    let pivots: Vec<usize> = (0..n).map(|_| r.below(n as u64) as usize).collect();
+    let x = doubles(r, n);
+    format!(
+        "rawsolve {n} {} {} {}",
+        vector(&factors),
+        numbers(&pivots),
+        vector(&x)
+    )
 }

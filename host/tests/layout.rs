@@ -4,7 +4,7 @@
 #[path = "../src/ffi.rs"]
 mod ffi;
 
-use ffi::{Answer, Bounds, ProbeTimes, TimeDifferencePolicy as Policy};
+use ffi::{Answer, Bounds, ProbeTimes, SameAnswer, TimeDifferencePolicy as Policy};
 use std::mem::{align_of, offset_of, size_of};
 use wiqhano as _; // links the archive
 
@@ -19,6 +19,10 @@ fn sizes_and_offsets() {
     assert_eq!(offset_of!(ProbeTimes, count), 4);
     assert_eq!(offset_of!(ProbeTimes, first), 8);
     assert_eq!(offset_of!(ProbeTimes, second), 16);
+
+    assert_eq!((size_of::<SameAnswer>(), align_of::<SameAnswer>()), (8, 4));
+    assert_eq!(offset_of!(SameAnswer, number), 0);
+    assert_eq!(offset_of!(SameAnswer, same), 4);
 
     assert_eq!((size_of::<Bounds>(), align_of::<Bounds>()), (24, 8));
     assert_eq!(offset_of!(Bounds, present), 0);

@@ -36,6 +36,12 @@ fn telling() {
     replayed("telling");
 }
 
+/// The same for linear systems: edges, starred cases, telling inputs.
+#[test]
+fn linear() {
+    replayed("linear");
+}
+
 /// Random lines.
 #[test]
 fn random() {

@@ -97,10 +97,6 @@ unfolding lt ofBits
 lt-zero true e = ap (λ (y : ℕ). ltb 0 (y * 1 + 0 * down e)) (zero-mul (up e)) ∙ ap (λ (y : ℕ). ltb 0 (0 + y)) (zero-mul (down e))
 lt-zero false e = lt-plus 0 e
 
-pub gt-some : (m : ℕ) (e : ℤ) → lt (ofBits binary64 0) (fin false (suc m) e) ≡ true
-unfolding lt ofBits
-gt-some m e = is-true (ltb (0 * 1 * down e) (suc m * up e * 1)) (lt→ltb (0 * 1 * down e) (suc m * up e * 1) (subst (λ (y : ℕ). y < suc m * up e * 1) (sym (zero-mul (down e))) (some m e)))
-
 pub eq-some : (s : Bool) (m : ℕ) (e : ℤ) → eq (fin s (suc m) e) (ofBits binary64 0) ≡ false
 unfolding eq ofBits
 eq-some s m e =
@@ -137,14 +133,6 @@ abs-zero nan f e = unfold eq in absurd (false≢true e)
 abs-zero (inf s) f e = unfold eq ofBits in absurd (false≢true e)
 abs-zero (fin s zero d) f e = unfold ofBits in ap (λ (z : ℤ). fin false 0 z) (sym (zero-exp binary64 s d f))
 abs-zero (fin s (suc m) d) f e = never e (eq-some s m d)
-
-pub abs-above : (x : Float) → lt (ofBits binary64 0) x ≡ true → x ≡ abs x
-unfolding abs
-abs-above nan h = unfold lt ofBits in absurd (false≢true h)
-abs-above (inf true) h = unfold lt ofBits in absurd (false≢true h)
-abs-above (inf false) h = refl
-abs-above (fin true m e) h = unfold lt ofBits in absurd (false≢true h)
-abs-above (fin false m e) h = refl
 
 pub abs-fits : (x : Float) → T (fits binary64 x) → T (fits binary64 (abs x))
 unfolding abs fits

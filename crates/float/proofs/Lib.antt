@@ -6,3 +6,5 @@ pub mod Patterns
 pub mod Order
 pub mod Zeros
 pub mod Edges
+pub mod Negatives
+pub mod Quotients

@@ -1,19 +1,16 @@
--- A value that fits is what its own fraction rounds to: so an operation whose exact result fits gives that result. `x * 1.0` is x, and `0.0 - x` is -x.
--- Assumes nothing.
+-- A value that fits is what its own fraction rounds to: so an operation whose exact result fits gives that result. `x * 1.0` is x. Assumes nothing.
 use mathlib.Core.Path.{_≡_, refl, sym, ap, _∙_, subst}
 use Prim.Native.Nat.{ℕ, zero, suc, _+_, _-_, _*_, _%_, _^_, _≤_, _<_}
-use native.Mathlib.Nat.{le-of-eq, lt-irrefl, lt-of-lt-of-le, lt-of-le-of-lt, lt-of-not-le, le-of-suc-le-suc, zero-lt-suc, suc-ne-zero, sub-add-cancel, add-suc, zero-mul, mul-one, one-mul, zero-add, mul-comm, mul-assoc, mul-left-comm, mul-right-comm, mul-pos, mul-lt-mul-of-pos-right, lt-of-mul-lt-mul-right, eq-of-mul-eq-mul-right, pow-suc, pow-succ'}
+use native.Mathlib.Nat.{le-of-eq, lt-irrefl, lt-of-lt-of-le, lt-of-le-of-lt, lt-of-not-le, le-of-suc-le-suc, zero-lt-suc, suc-ne-zero, sub-add-cancel, add-suc, zero-mul, mul-one, mul-comm, mul-assoc, mul-left-comm, mul-right-comm, mul-pos, mul-lt-mul-of-pos-right, lt-of-mul-lt-mul-right, eq-of-mul-eq-mul-right, pow-suc, pow-succ'}
 use native.Mathlib.Omega.{arith}
-use mathlib.Core.Bool.{Bool, true, false, _&&_, true≢false}
+use mathlib.Core.Bool.{Bool, true, false, _&&_}
 use lib.IntN.{ℤ, pos, negsuc}
 use lib.Dec.{T, leb, ltb, eqb, leb→le, ltb→lt, eqb→eq}
 use lib.Pow.{pow-add, pow-pos, pow-lt}
-use lib.Ieee.{Float, nan, inf, fin, binary64, up, down, round, fits, lt, neg, sum, add, sub, mul, ofBits, unlike}
+use lib.Ieee.{Float, nan, inf, fin, binary64, up, down, round, fits, lt, mul, ofBits, unlike}
 use lib.Ieee.Fits.{and-l, and-r, down-pos, up-pos, round-fits}
 use lib.Ieee.Exact.{HasValue, round-exact}
-use Rattle.float.specs.Methods.{abs}
-use Rattle.float.proofs.Cases.{never}
-use Rattle.float.proofs.Laws.{none, round-zero, zero-exp, gt-some, abs-fits}
+use Rattle.float.proofs.Laws.{none, round-zero, zero-exp}
 
 -- ---- what `fits` says of a value that is not zero
 pub record Fit (m : ℕ) (e : ℤ) : Type 0 where
@@ -122,27 +119,3 @@ mul-one-is (inf s) f = ap inf (unlike-plus s)
 mul-one-is (fin s m e) f =
     ap (λ (t : Bool). round binary64 t (m * up e * (1 * 2 ^ 0)) (down e * 1)) (unlike-plus s)
     ∙ round-own s m e (m * up e * 1) (down e * 1) f (mul-pos (down-pos e) (zero-lt-suc 0)) (sym (mul-assoc (m * up e) (down e) 1) ∙ mul-right-comm (m * up e) (down e) 1)
-
--- ---- 0.0 - x, for an x that is not above 0
-minus-some : (m : ℕ) (e : ℤ) → T (fits binary64 (fin false (suc m) e)) → sub binary64 (ofBits binary64 0) (fin true (suc m) e) ≡ fin false (suc m) e
-unfolding sub add neg sum ofBits
-minus-some m e f =
-    let b = suc m * up e in
-    round-own false (suc m) e (0 * 1 * down e + b * 1) (1 * down e) f (mul-pos (zero-lt-suc 0) (down-pos e))
-    (ap (λ (t : ℕ). b * t) (one-mul (down e)) ∙ sym (ap (λ (t : ℕ). t * down e) (ap (λ (t : ℕ). t + b * 1) (zero-mul (down e)) ∙ zero-add (b * 1) ∙ mul-one b)))
-
-minus-zero : (s : Bool) → sub binary64 (ofBits binary64 0) (fin s 0 (pos 0)) ≡ fin false 0 (pos 0)
-unfolding sub add neg sum ofBits round
-minus-zero true = refl
-minus-zero false = refl
-
-pub abs-rest : (x : Float) → T (fits binary64 x) → lt (ofBits binary64 0) x ≡ false → sub binary64 (ofBits binary64 0) x ≡ abs x
-unfolding abs
-abs-rest nan f h = unfold sub add neg ofBits in refl
-abs-rest (inf true) f h = unfold sub add neg ofBits in refl
-abs-rest (inf false) f h = unfold lt ofBits in absurd (true≢false h)
-abs-rest (fin s zero e) f h =
-    let z = zero-exp binary64 s e f in
-    ap (λ (t : ℤ). sub binary64 (ofBits binary64 0) (fin s 0 t)) z ∙ minus-zero s ∙ ap (fin false 0) (sym z)
-abs-rest (fin true (suc m) e) f h = minus-some m e (unfold abs in abs-fits (fin true (suc m) e) f)
-abs-rest (fin false (suc m) e) f h = never (gt-some m e) h

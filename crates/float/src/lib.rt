@@ -31,7 +31,8 @@ pub fn is_finite(x: f64) -> bool
 pub fn abs(x: f64) -> f64
     ensures { λ r. ⌜ r ≡ abs x ⌝ }
 {
-    if x > 0.0 { x } else { 0.0 - x }
+    let negative = 0.0 - x;
+    if negative < x { x } else { negative }
 }
 
 // The number, where one of the two is a NaN.

@@ -8,9 +8,15 @@ ghost use Rattle.square_root.specs.Root.{squareRoot};
 ghost use Rattle.stepping.specs.Time.{checkedTime, endpointStep};
 ghost use Rattle.time_difference.specs.Policy.{defaultPolicy, probes};
 ghost use Rattle.time_difference.specs.Probes.{partial};
-ghost use Rattle.host.specs.Answers.{ofChecked, ofEndpoint, ofProbes, policyOf};
+ghost use Rattle.linear.specs.Calls.{numberOf, factorizeOf, solved, solveOf};
+ghost use Rattle.host.specs.Factors.{handed, numbered, rawTested};
+ghost use Rattle.tableau.specs.File.{check};
+ghost use Rattle.tableau.specs.Same.{same};
+ghost use Rattle.host.specs.Answers.{ofChecked, ofEndpoint, ofProbes, policyOf, ofSameness};
+use linear::Factorization;
 use stepping::Checked;
 use stepping::Endpoint;
+use tableau::Sameness;
 use time_difference::Bounds;
 use time_difference::Probes;
 use time_difference::TimeDifferencePolicy;
@@ -30,6 +36,13 @@ pub struct ProbeTimes {
     pub count: u32,
     pub first: f64,
     pub second: f64,
+}
+
+// number: the refusal, 0 for none. same: false where it is refused.
+#[repr(C)]
+pub struct SameAnswer {
+    pub number: u32,
+    pub same: bool,
 }
 
 #[no_mangle]
@@ -180,4 +193,65 @@ pub extern "C" fn wiqhano_partial(
     ensures { λ r. ⌜ r ≡ partial two base first second d1 d2 ⌝ }
 {
     time_difference::partial(base, first, second, d1, d2, two)
+}
+
+fn number_of(answer: Factorization) -> u32
+    ensures { λ r. ⌜ r ≡ numberOf answer ⌝ }
+{
+    match answer {
+        Factorization::Factored => 0,
+        Factorization::Refused(number) => number,
+    }
+}
+
+#[no_mangle]
+pub extern "C" fn wiqhano_factorize(matrix: &mut [f64], pivots: &mut [usize], n: usize) -> u32
+    ensures { λ r. ⌜ handed r (now (matrix .exit)) (now (pivots .exit)) ≡ numbered (factorizeOf n (now (matrix .entry)) (now (pivots .entry))) ⌝ }
+{
+    number_of(linear::factorize(matrix, pivots, n))
+}
+
+// The raw form asks for sizes that fit: here they are tested.
+#[no_mangle]
+pub extern "C" fn wiqhano_factorize_raw(matrix: &mut [f64], pivots: &mut [usize], n: usize) -> u32
+    ensures { λ r. ⌜ handed r (now (matrix .exit)) (now (pivots .exit)) ≡ numbered (rawTested n (now (matrix .entry)) (now (pivots .entry))) ⌝ }
+{
+    if linear::is_square(matrix, pivots, n) {
+        return number_of(linear::factorize_raw(matrix, pivots, n));
+    }
+    stepping::DIMENSION
+}
+
+#[no_mangle]
+pub extern "C" fn wiqhano_solve(factors: &[f64], pivots: &[usize], rhs: &mut [f64], n: usize) -> u32
+    ensures { λ r. ⌜ solved r (now (rhs .exit)) ≡ solveOf n (now (factors .entry)) (now (pivots .entry)) (now (rhs .entry)) ⌝ }
+{
+    linear::solve(factors, pivots, rhs, n)
+}
+
+#[no_mangle]
+pub extern "C" fn wiqhano_tableau_check(file: &[u8]) -> u32
+    ensures { λ r. ⌜ r ≡ check (now (file .entry)) ⌝ }
+{
+    tableau::check(file)
+}
+
+#[no_mangle]
+pub extern "C" fn wiqhano_tableau_same(first: &[u8], second: &[u8]) -> SameAnswer
+    ensures { λ r. ⌜ r ≡ ofSameness (same (now (first .entry)) (now (second .entry))) ⌝ }
+{
+    match tableau::same(first, second) {
+        Sameness::Same => SameAnswer {
+            number: 0,
+            same: true,
+        },
+        Sameness::Other => SameAnswer {
+            number: 0,
+            same: false,
+        },
+        Sameness::Refused(number) => SameAnswer {
+            number,
+            same: false,
+        },
+    }
 }

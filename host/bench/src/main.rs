@@ -22,11 +22,22 @@ mod inner {
     }
 }
 
+/// The original's file, which keeps its calls to its own crate; `SolveError` is what it takes from
+/// there.
+#[allow(dead_code)]
+mod original_linear {
+    include!("../../../../shared/docs/src/src/linear.rs");
+}
+#[derive(Debug)]
+pub enum SolveError {
+    SingularLinearSystem,
+}
+
 const INPUTS: usize = 4096;
 const BATCHES: usize = 201;
 
 /// Nanoseconds a call, over one batch of all inputs.
-fn batch<T>(inputs: &[[f64; 5]], call: impl Fn(&[f64; 5]) -> T) -> f64 {
+fn batch<I, T>(inputs: &[I], mut call: impl FnMut(&I) -> T) -> f64 {
     let began = Instant::now();
     for input in inputs {
         black_box(call(black_box(input)));
@@ -39,16 +50,16 @@ fn median(mut times: Vec<f64>) -> f64 {
     times[times.len() / 2]
 }
 
-fn beside<T, U>(
+fn beside<I, T, U>(
     name: &str,
-    inputs: &[[f64; 5]],
-    port: impl Fn(&[f64; 5]) -> T,
-    original: impl Fn(&[f64; 5]) -> U,
+    inputs: &[I],
+    mut port: impl FnMut(&I) -> T,
+    mut original: impl FnMut(&I) -> U,
 ) {
     let (mut ports, mut originals) = (Vec::new(), Vec::new());
     for _ in 0..BATCHES {
-        ports.push(batch(inputs, &port));
-        originals.push(batch(inputs, &original));
+        ports.push(batch(inputs, &mut port));
+        originals.push(batch(inputs, &mut original));
     }
     let (port, original) = (median(ports), median(originals));
     let ratio = port / original;
@@ -75,6 +86,60 @@ fn original_probes(
 #[inline(never)]
 fn original_partial(base: f64, first: f64, second: Option<f64>, d1: f64, d2: Option<f64>) -> f64 {
     inner::time_difference::partial(base, first, second, d1, d2)
+}
+
+#[inline(never)]
+fn original_factorize(m: &mut [f64], pivots: &mut [usize], n: usize) -> Result<(), SolveError> {
+    original_linear::factorize(m, pivots, n)
+}
+#[inline(never)]
+fn original_solve(factors: &[f64], pivots: &[usize], x: &mut [f64], n: usize) {
+    original_linear::solve_factorized(factors, pivots, x, n)
+}
+
+/// factorize, raw as the original's, and solve; both sides copy their input first.
+fn linear(random: &mut Random) {
+    for n in [1, 2, 4, 8, 16, 32] {
+        let count = (INPUTS / (n * n)).max(16);
+        let matrices: Vec<Vec<f64>> = (0..count)
+            .map(|_| (0..n * n).map(|_| random.unit() * 2.0 - 1.0).collect())
+            .collect();
+        let (mut m, mut pivots) = (vec![0.0; n * n], vec![0; n]);
+        let (mut l, mut q) = (vec![0.0; n * n], vec![0; n]);
+        beside(
+            &format!("factorize {n}"),
+            &matrices,
+            |a| {
+                m.copy_from_slice(a);
+                wiqhano::linear::factorize_raw(&mut m, &mut pivots, n)
+            },
+            |a| {
+                l.copy_from_slice(a);
+                original_factorize(&mut l, &mut q, n)
+            },
+        );
+        let factored: Vec<(Vec<f64>, Vec<usize>, Vec<f64>)> = matrices
+            .iter()
+            .map(|a| {
+                let (mut f, mut p) = (a.clone(), vec![0; n]);
+                wiqhano::linear::factorize(&mut f, &mut p, n).expect("a random matrix has factors");
+                (f, p, (0..n).map(|_| random.unit()).collect())
+            })
+            .collect();
+        let (mut x, mut y) = (vec![0.0; n], vec![0.0; n]);
+        beside(
+            &format!("solve {n}"),
+            &factored,
+            |(f, p, b)| {
+                x.copy_from_slice(b);
+                wiqhano::linear::solve(f, p, &mut x, n)
+            },
+            |(f, p, b)| {
+                y.copy_from_slice(b);
+                original_solve(f, p, &mut y, n)
+            },
+        );
+    }
 }
 
 fn main() {
@@ -138,4 +203,5 @@ fn main() {
             },
         );
     }
+    linear(&mut random);
 }

@@ -1,0 +1,5 @@
+-- Laws that dependents may cite.
+pub mod General
+pub mod Bytes
+pub mod Inverse
+pub mod Stores
