@@ -108,4 +108,15 @@ unsafe extern "C" {
         second: *const u8,
         second_len: usize,
     ) -> SameAnswer;
+    pub fn wiqhano_tableau_stages(file: *const u8, file_len: usize) -> usize;
+    pub fn wiqhano_tableau_kind(file: *const u8, file_len: usize) -> usize;
+    pub fn wiqhano_tableau_estimator(file: *const u8, file_len: usize) -> usize;
+    pub fn wiqhano_tableau_btilde_present(file: *const u8, file_len: usize) -> bool;
+    pub fn wiqhano_tableau_gamma(file: *const u8, file_len: usize) -> f64;
+    pub fn wiqhano_tableau_a(file: *const u8, file_len: usize, i: usize, j: usize) -> f64;
+    pub fn wiqhano_tableau_coupling(file: *const u8, file_len: usize, i: usize, j: usize) -> f64;
+    pub fn wiqhano_tableau_c(file: *const u8, file_len: usize, i: usize) -> f64;
+    pub fn wiqhano_tableau_d(file: *const u8, file_len: usize, i: usize) -> f64;
+    pub fn wiqhano_tableau_b(file: *const u8, file_len: usize, i: usize) -> f64;
+    pub fn wiqhano_tableau_btilde(file: *const u8, file_len: usize, i: usize) -> f64;
 }

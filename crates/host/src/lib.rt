@@ -10,7 +10,8 @@ ghost use Rattle.time_difference.specs.Policy.{defaultPolicy, probes};
 ghost use Rattle.time_difference.specs.Probes.{partial};
 ghost use Rattle.linear.specs.Calls.{numberOf, factorizeOf, solved, solveOf};
 ghost use Rattle.host.specs.Factors.{handed, numbered, rawTested};
-ghost use Rattle.tableau.specs.File.{check};
+ghost use Rattle.tableau.specs.Tableau.{present, stagesOf, gammaOf, aOf, couplingOf, cOf, dOf, bOf, btildeOf};
+ghost use Rattle.tableau.specs.File.{tableauOf, check};
 ghost use Rattle.tableau.specs.Same.{same};
 ghost use Rattle.host.specs.Answers.{ofChecked, ofEndpoint, ofProbes, policyOf, ofSameness};
 use linear::Factorization;
@@ -254,4 +255,81 @@ pub extern "C" fn wiqhano_tableau_same(first: &[u8], second: &[u8]) -> SameAnswe
             same: false,
         },
     }
+}
+
+#[no_mangle]
+pub extern "C" fn wiqhano_tableau_stages(file: &[u8]) -> usize
+    ensures { λ r. ⌜ r ≡ stagesOf (tableauOf (now (file .entry))) ⌝ }
+{
+    tableau::stages(file)
+}
+
+#[no_mangle]
+pub extern "C" fn wiqhano_tableau_kind(file: &[u8]) -> usize
+    ensures { λ r. ⌜ r ≡ tableauOf (now (file .entry)) .counts .kind ⌝ }
+{
+    tableau::kind(file)
+}
+
+#[no_mangle]
+pub extern "C" fn wiqhano_tableau_estimator(file: &[u8]) -> usize
+    ensures { λ r. ⌜ r ≡ tableauOf (now (file .entry)) .counts .estimator ⌝ }
+{
+    tableau::estimator(file)
+}
+
+#[no_mangle]
+pub extern "C" fn wiqhano_tableau_btilde_present(file: &[u8]) -> bool
+    ensures { λ r. ⌜ r ≡ present (tableauOf (now (file .entry)) .counts) ⌝ }
+{
+    tableau::btilde_present(file)
+}
+
+#[no_mangle]
+pub extern "C" fn wiqhano_tableau_gamma(file: &[u8]) -> f64
+    ensures { λ r. ⌜ r ≡ gammaOf (tableauOf (now (file .entry))) ⌝ }
+{
+    tableau::gamma(file)
+}
+
+#[no_mangle]
+pub extern "C" fn wiqhano_tableau_a(file: &[u8], i: usize, j: usize) -> f64
+    ensures { λ r. ⌜ r ≡ aOf (tableauOf (now (file .entry))) i j ⌝ }
+{
+    tableau::a(file, i, j)
+}
+
+#[no_mangle]
+pub extern "C" fn wiqhano_tableau_coupling(file: &[u8], i: usize, j: usize) -> f64
+    ensures { λ r. ⌜ r ≡ couplingOf (tableauOf (now (file .entry))) i j ⌝ }
+{
+    tableau::coupling(file, i, j)
+}
+
+#[no_mangle]
+pub extern "C" fn wiqhano_tableau_c(file: &[u8], i: usize) -> f64
+    ensures { λ r. ⌜ r ≡ cOf (tableauOf (now (file .entry))) i ⌝ }
+{
+    tableau::c(file, i)
+}
+
+#[no_mangle]
+pub extern "C" fn wiqhano_tableau_d(file: &[u8], i: usize) -> f64
+    ensures { λ r. ⌜ r ≡ dOf (tableauOf (now (file .entry))) i ⌝ }
+{
+    tableau::d(file, i)
+}
+
+#[no_mangle]
+pub extern "C" fn wiqhano_tableau_b(file: &[u8], i: usize) -> f64
+    ensures { λ r. ⌜ r ≡ bOf (tableauOf (now (file .entry))) i ⌝ }
+{
+    tableau::b(file, i)
+}
+
+#[no_mangle]
+pub extern "C" fn wiqhano_tableau_btilde(file: &[u8], i: usize) -> f64
+    ensures { λ r. ⌜ r ≡ btildeOf (tableauOf (now (file .entry))) i ⌝ }
+{
+    tableau::btilde(file, i)
 }
