@@ -1,5 +1,4 @@
 -- Laws that dependents may cite.
-pub mod General
 pub mod Bytes
 pub mod Inverse
 pub mod Stores

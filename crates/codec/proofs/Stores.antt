@@ -7,7 +7,7 @@ use mathlib.Core.List.{List, _++_}
 use lib.ListN.{length, set, take, getD}
 use lib.Seq.{sets, take-suc, length-take-le}
 use Rattle.codec.specs.Little.{bytesOf, bytesOfAll}
-use Rattle.codec.proofs.General.{sets-more}
+use Rattle.vector.proofs.Stores.{sets-more}
 use Rattle.codec.proofs.Inverse.{bytesOfAll-append, bytesOfAll-one, length-bytesOf, length-bytesOfAll}
 
 pub four-sets : (l : List ℕ) (at x : ℕ) {a b c d : ℕ} → a ≡ x % 256 → b ≡ x / 256 % 256 → c ≡ x / 256 / 256 % 256 → d ≡ x / 256 / 256 / 256 % 256

@@ -183,3 +183,14 @@ unfolding isNan ne
 no-nan nan e = true≢false e
 no-nan (inf s) e = tt
 no-nan (fin s m d) e = tt
+
+pub finite-not-nan : (x : Float) → finite x ≡ true → T (not (isNan x))
+unfolding isNan
+finite-not-nan nan e = subst T (sym e) tt
+finite-not-nan (inf s) e = tt
+finite-not-nan (fin s m d) e = tt
+
+-- ---- the NaN that a program writes as 0.0 / 0.0
+pub nan-is : div binary64 (ofBits binary64 0) (ofBits binary64 0) ≡ nan
+unfolding div ofBits
+nan-is = refl

@@ -7,7 +7,7 @@ use mathlib.Core.Bool.{Bool, true, false, _&&_}
 use lib.IntN.{ℤ, pos, negsuc}
 use lib.Dec.{T, leb, ltb, eqb, leb→le, ltb→lt, eqb→eq}
 use lib.Pow.{pow-add, pow-pos, pow-lt}
-use lib.Ieee.{Float, nan, inf, fin, binary64, up, down, round, fits, lt, mul, ofBits, unlike}
+use lib.Ieee.{Float, nan, inf, fin, binary64, up, down, round, fits, mul, ofBits, unlike}
 use lib.Ieee.Fits.{and-l, and-r, down-pos, up-pos, round-fits}
 use lib.Ieee.Exact.{HasValue, round-exact}
 use Rattle.float.proofs.Laws.{none, round-zero, zero-exp}

@@ -1,16 +1,19 @@
 -- The bit patterns of binary64 without a sign, below that of the infinity: what each stands for, and those of the positive finite values.
--- Assumes nothing.
+-- Which are a finite value's. Assumes nothing.
 use mathlib.Core.Path.{_≡_, refl, sym, ap, _∙_, subst}
-use Prim.Native.Nat.{ℕ, suc, _+_, _-_, _*_, _/_, _%_, _^_, _≤_, _<_}
+use Prim.Native.Nat.{ℕ, zero, suc, _+_, _-_, _*_, _/_, _%_, _^_, _≤_, _<_}
 use native.Mathlib.Nat.{not-le-of-lt, lt-of-not-le, lt-of-lt-of-le, le-of-eq, mod-eq-of-lt, mul-right-comm, mul-lt-mul-of-pos-right, div-lt-iff-lt-mul, pos-of-ne-zero, suc-ne-zero}
 use native.Mathlib.Omega.{arith}
 use native.Mathlib.Decide.{decLe}
-use mathlib.Core.Bool.{Bool, false, not, cond}
+use mathlib.Core.Bool.{Bool, true, false, not, cond}
 use lib.IntN.{ℤ}
 use lib.Dec.{T, leb, eqb, ltb, leb→le, ltb→lt, eqb→eq, not-T}
 use lib.Pow.{pow-pos}
 use lib.Ieee.{Float, nan, inf, fin, binary64, up, down, size, odd, fits, ofFields, ofBits, toBits, nanBits}
+use lib.Ieee.Scale.{finite}
 use lib.Ieee.Fits.{down-pos, kept-lt}
+use borrow.Author.Tests.{eqb-true, eqb-false, lt-ltb, le-ltb, ltb-true, ltb-false}
+use Rattle.float.proofs.Cases.{by}
 use lib.Ieee.Digits.{Equals, odd-val, size-le}
 use lib.Ieee.Bits.{is-false, cond-no, nanBits-above, ofBits-toBits}
 use Rattle.float.proofs.Own.{fit}
@@ -109,3 +112,33 @@ digits-of m d f = go (toBits binary64 (fin false (suc m) d)) refl (pattern-pos m
 
 pub units-val : (m : ℕ) (d : ℤ) (q k : ℕ) → fin false m d ≡ odd 53 false q k 1074 → m * up d * 2 ^ 1074 ≡ q * 2 ^ k * down d
 units-val m d q k e = subst (λ (y : Float). Equals y (q * 2 ^ k) (2 ^ 1074)) (sym e) (odd-val 53 false q k 1074)
+
+-- ---- finite patterns: the exponent's field is not all ones
+odd-finite : (d : ℕ) (s : Bool) (q k l : ℕ) → finite (odd d s q k l) ≡ true
+unfolding odd
+odd-finite d s zero k l = refl
+odd-finite d s (suc q) k l = refl
+
+ones-not : (s b : Bool) → finite (cond b (inf s) nan) ≡ false
+ones-not s true = refl
+ones-not s false = refl
+
+fields-finite : (s : Bool) (x t : ℕ) → x < 2048 → finite (ofFields binary64 s x t) ≡ ltb x 2047
+unfolding ofFields
+fields-finite s zero t h = odd-finite 53 s t 0 1074
+fields-finite s (suc x) t h =
+    by (eqb (suc x) 2047)
+    (λ e. rw e (ones-not s (eqb t 0) ∙ sym (le-ltb (suc x) 2047 (omega (arith, eqb-true (suc x) 2047 e)))))
+    (λ e. rw e (odd-finite 53 s (0x10_0000_0000_0000 + t) x 1074 ∙ sym (lt-ltb (suc x) 2047 (omega (arith, eqb-false (suc x) 2047 e)))))
+
+below : (y : ℕ) → ltb (y / 0x10_0000_0000_0000) 2047 ≡ ltb y 0x7ff0_0000_0000_0000
+below y =
+    by (ltb y 0x7ff0_0000_0000_0000)
+    (λ e. rw e (lt-ltb (y / 0x10_0000_0000_0000) 2047 (omega (arith, ltb-true y 0x7ff0_0000_0000_0000 e))))
+    (λ e. rw e (le-ltb (y / 0x10_0000_0000_0000) 2047 (omega (arith, ltb-false y 0x7ff0_0000_0000_0000 e))))
+
+pub finite-bits : (b : ℕ) → finite (ofBits binary64 b) ≡ ltb (b % 0x8000_0000_0000_0000) 0x7ff0_0000_0000_0000
+unfolding ofBits
+finite-bits b =
+    fields-finite (leb 0x8000_0000_0000_0000 b) (b % 0x8000_0000_0000_0000 / 0x10_0000_0000_0000) (b % 0x10_0000_0000_0000) (omega arith)
+    ∙ below (b % 0x8000_0000_0000_0000)

@@ -6,7 +6,7 @@ use lib.Ieee.{binary64, ofBits, div}
 use borrow.Author.Tests.{lt-ltb, le-ltb}
 use Rattle.float.proofs.Cases.{yes, no}
 use Rattle.tableau.specs.Tableau.{Tableau, triangle, stagesOf, ofPart, aOf, couplingOf, cOf, dOf, bOf, btildeOf}
-use Rattle.codec.proofs.General.{nan-is}
+use Rattle.float.proofs.Laws.{nan-is}
 
 -- one part, its start worked out in two ways
 start-is : (t : Tableau) (i : ℕ) {k l m n : ℕ} → k ≡ l → m ≡ n → ofPart t k m i ≡ ofPart t l n i

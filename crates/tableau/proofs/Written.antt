@@ -16,7 +16,8 @@ use Rattle.float.proofs.Cases.{by, both}
 use Rattle.vector.specs.Lists.{el}
 use Rattle.vector.proofs.Lists.{every-of, length-table, table-at}
 use Rattle.codec.specs.Little.{little, bytesOfAll, doubleAt}
-use Rattle.codec.proofs.General.{finite-not-nan, getD-default}
+use Rattle.float.proofs.Laws.{finite-not-nan}
+use Rattle.vector.proofs.Lists.{getD-default}
 use Rattle.codec.proofs.Inverse.{Bytes, numbers, all-written, eight-lt, length-bytesOfAll, little-past, little-of-all}
 use Rattle.tableau.specs.declared.Counts.{Counts}
 use Rattle.tableau.specs.Tableau.{Tableau, btildeAt, ifPresent, howMany, allowed, valid}

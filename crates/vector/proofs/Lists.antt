@@ -118,3 +118,9 @@ every-same p q (suc n) h = rw (every-same p q n (λ i l. h i (omega arith)), h n
 pub finite-at : (x : List Float) (i : ℕ) → allFinite x ≡ true → i < length x → finite (el x i) ≡ true
 unfolding allFinite
 finite-at x i e h = every-at (λ j. finite (el x j)) (length x) i e h
+
+-- ---- an element that is there, whatever stands for one that is not
+pub getD-default : {A : Type 0} (l : List A) (i : ℕ) (d e : A) → i < length l → getD l i d ≡ getD l i e
+getD-default [] i d e h = absurd (omega arith)
+getD-default (a ∷ l) zero d e h = refl
+getD-default (a ∷ l) (suc i) d e h = getD-default l i d e (omega arith)

@@ -2,11 +2,12 @@
 use Prim.Native.Nat.{ℕ, zero, suc, _+_, _-_, _<_, _≤_}
 use native.Mathlib.Omega.{arith}
 use native.Mathlib.Numerals.{add-one}
+use native.Mathlib.Nat.{add-zero}
 use mathlib.Core.Path.{_≡_, refl, sym, ap, _∙_}
-use mathlib.Core.List.{List, _++_}
+use mathlib.Core.List.{List, [], _∷_, _++_}
 use mathlib.Core.Logic.{_⊎_, inl, inr, ⊎-elim}
 use lib.ListN.{length, take, drop, getD, set, length-set, length-append, length-drop, List·getD-append}
-use lib.Seq.{getD-set-same, getD-set-other, getD-take, getD-drop, getD-append-add, length-take-le, ext-getD}
+use lib.Seq.{sets, getD-set-same, getD-set-other, getD-take, getD-drop, getD-append-add, length-take-le, ext-getD}
 use lib.Dec.{eqb, ltb}
 use borrow.Author.Tests.{eqb-true, eqb-false, ltb-true, ltb-false}
 use borrow.Rule.Slice.PartMut.{putMid, postOf}
@@ -101,3 +102,8 @@ module _ {A : Type 0} where
 
   pub mid-stored : (d : A) (w x : List A) (at k : ℕ) {y : List A} → at + length x ≤ length w → k ≡ length x → y ≡ x → putMid at k w y ≡ puts w at (λ j. getD x j d) (length x)
   mid-stored d w x at k {y} h e q = rw (q, e) (mid-puts d at (length x) w x h refl)
+
+-- ---- a run of stores, then another right after it
+pub sets-more : {A : Type 0} (l : List A) (i : ℕ) (vs ws : List A) → sets (sets l i vs) (i + length vs) ws ≡ sets l i (vs ++ ws)
+sets-more {A} l i [] ws = ap (λ (n : ℕ). sets l n ws) (add-zero i)
+sets-more {A} l i (v ∷ vs) ws = ap (λ (n : ℕ). sets (sets (set l i v) (suc i) vs) n ws) (omega arith) ∙ sets-more (set l i v) (suc i) vs ws

@@ -4,8 +4,9 @@ use Prim.Native.Nat.{_%_}
 use native.Mathlib.Nat.{not-le-of-lt}
 use mathlib.Core.Bool.{Bool, not}
 use lib.Dec.{T, ltb, ltb→lt, lt→ltb, not-T}
-use lib.Ieee.{Float, nan, inf, fin, binary64, div, isNan, ofBits}
+use lib.Ieee.{Float, nan, inf, fin, binary64, isNan, ofBits}
 use lib.Ieee.Bits.{nanBits-is, nanBits-above}
+use Rattle.float.proofs.Laws.{nan-is}
 use Rattle.float.proofs.of_bits.Statement.{statement}
 use Rattle.float.proofs.of_bits.Tie as tie
 
@@ -14,10 +15,6 @@ unfolding isNan
 is-nan nan t = refl
 is-nan (inf s) t = absurd t
 is-nan (fin s m e) t = absurd t
-
-nan-is : div binary64 (ofBits binary64 0) (ofBits binary64 0) ≡ nan
-unfolding div ofBits
-nan-is = refl
 
 returns : tie.Need-returns
 returns c =

@@ -1,6 +1,6 @@
 -- `tableau::allowed` meets its contract. Assumes nothing.
 use mathlib.Core.Path.{sym}
-use Rattle.codec.proofs.General.{finite-bits}
+use Rattle.float.proofs.Patterns.{finite-bits}
 use Rattle.tableau.proofs.allowed.Statement.{statement}
 use Rattle.tableau.proofs.allowed.Tie as tie
 

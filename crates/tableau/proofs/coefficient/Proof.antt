@@ -1,7 +1,7 @@
 -- `tableau::coefficient` meets its contract: past the end it is a NaN. Assumes nothing.
 use mathlib.Core.Path.{sym, _∙_}
 use native.Mathlib.Omega.{arith}
-use Rattle.codec.proofs.General.{nan-is}
+use Rattle.float.proofs.Laws.{nan-is}
 use Rattle.tableau.proofs.Laws.{coefficient-at, coefficient-past}
 use borrow.Author.Needs.{needs}
 use Rattle.tableau.proofs.coefficient.Statement.{statement}

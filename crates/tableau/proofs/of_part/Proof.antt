@@ -1,7 +1,7 @@
 -- `tableau::of_part` meets its contract. Assumes nothing.
 use borrow.Author.Tests.{lt-ltb, le-ltb}
 use Rattle.float.proofs.Cases.{yes, no}
-use Rattle.codec.proofs.General.{nan-is}
+use Rattle.float.proofs.Laws.{nan-is}
 use Rattle.tableau.specs.Tableau.{ofPart}
 use borrow.Author.Needs.{needs}
 use Rattle.tableau.proofs.of_part.Statement.{statement}

@@ -1,0 +1,3 @@
+pub mod ErrorNorm
+pub mod Steps
+pub mod ScaledErrorNorm
