@@ -1,2 +1,0 @@
-pub mod Assess
-pub mod Calls

@@ -1,2 +1,0 @@
-pub mod Norm
-pub mod First

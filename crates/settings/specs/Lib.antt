@@ -1,3 +1,0 @@
-pub mod Constants
-pub mod Valid
-pub mod Presets
