@@ -43,6 +43,69 @@ pub struct SameAnswer {
     pub same: bool,
 }
 
+#[repr(C)]
+#[derive(Clone, Copy, Debug)]
+pub struct ControllerConfig {
+    pub beta: [f64; 3],
+    pub safety: f64,
+    pub minimum_factor: f64,
+    pub maximum_factor: f64,
+    pub rejection_maximum: f64,
+    pub rejected_acceptance_maximum: f64,
+    pub minimum_step: f64,
+    pub maximum_step: f64,
+    pub force_accept: bool,
+    pub initial_error_history: [f64; 2],
+    pub error_history_floor: f64,
+    pub accept_equal: bool,
+    pub has_rejection_exponent: bool,
+    pub rejection_exponent: f64,
+    pub has_repeated_rejection_maximum: bool,
+    pub repeated_rejection_maximum: f64,
+}
+
+#[repr(C)]
+#[derive(Clone, Copy, Debug)]
+pub struct ControllerState {
+    pub accepted_errors: [f64; 2],
+    pub rejected_since_acceptance: bool,
+    pub next_step: f64,
+    pub consecutive_rejections: u64,
+}
+
+#[repr(C)]
+#[derive(Clone, Copy, Debug)]
+pub struct AdaptiveController {
+    pub config: ControllerConfig,
+    pub state: ControllerState,
+}
+
+/// `refusal`: its number, 0 for none; here and below.
+#[repr(C)]
+#[derive(Clone, Copy, Debug)]
+pub struct Settings {
+    pub config: ControllerConfig,
+    pub refusal: u32,
+}
+
+#[repr(C)]
+#[derive(Clone, Copy, Debug)]
+pub struct Settled {
+    pub controller: AdaptiveController,
+    pub refusal: u32,
+}
+
+#[repr(C)]
+#[derive(Clone, Copy, Debug)]
+pub struct AssessAnswer {
+    pub controller: AdaptiveController,
+    pub number: u32,
+    pub accepted: bool,
+    pub forced: bool,
+    pub next_step: f64,
+    pub error: f64,
+}
+
 // Each is proved safe for every argument, and these take no pointer.
 unsafe extern "C" {
     pub safe fn wiqhano_abs(x: f64) -> f64;
@@ -74,6 +137,23 @@ unsafe extern "C" {
         d2: f64,
         two: bool,
     ) -> f64;
+    pub safe fn wiqhano_controller_proportional(error_order: u64) -> Settings;
+    pub safe fn wiqhano_controller_pi(beta1: f64, beta2: f64) -> ControllerConfig;
+    pub safe fn wiqhano_controller_pid(beta1: f64, beta2: f64, beta3: f64) -> ControllerConfig;
+    pub safe fn wiqhano_controller_new(config: ControllerConfig, initial_step: f64) -> Settled;
+    pub safe fn wiqhano_controller_restore(
+        controller: AdaptiveController,
+        state: ControllerState,
+    ) -> Settled;
+    pub safe fn wiqhano_controller_reset(controller: AdaptiveController, next_step: f64)
+    -> Settled;
+    pub safe fn wiqhano_controller_next_step(controller: AdaptiveController) -> Answer;
+    pub safe fn wiqhano_controller_assess(
+        controller: AdaptiveController,
+        step: f64,
+        error: f64,
+        product: f64,
+    ) -> AssessAnswer;
 }
 
 // A slice is a pointer and a length. Each stays within the slices that it is lent, and keeps none.
@@ -119,4 +199,38 @@ unsafe extern "C" {
     pub fn wiqhano_tableau_d(file: *const u8, file_len: usize, i: usize) -> f64;
     pub fn wiqhano_tableau_b(file: *const u8, file_len: usize, i: usize) -> f64;
     pub fn wiqhano_tableau_btilde(file: *const u8, file_len: usize, i: usize) -> f64;
+    pub fn wiqhano_scaled_error_norm(
+        state: *const f64,
+        state_len: usize,
+        candidate: *const f64,
+        candidate_len: usize,
+        error: *const f64,
+        error_len: usize,
+        absolute: f64,
+        relative: f64,
+    ) -> Answer;
+    pub fn wiqhano_interpolate(
+        start_time: f64,
+        end_time: f64,
+        start_state: *const f64,
+        start_state_len: usize,
+        end_state: *const f64,
+        end_state_len: usize,
+        corrections: *const f64,
+        corrections_len: usize,
+        order: usize,
+        time: f64,
+        output: *mut f64,
+        output_len: usize,
+    ) -> u32;
+    pub fn wiqhano_initial_step(
+        state: *const f64,
+        state_len: usize,
+        derivative: *const f64,
+        derivative_len: usize,
+        scales: *const f64,
+        scales_len: usize,
+        direction: f64,
+        maximum: f64,
+    ) -> Answer;
 }

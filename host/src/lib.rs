@@ -1,5 +1,7 @@
 //! The proved stepper for a Rust host: the calls that crates/host exports, in the shape of the
 //! original's.
+pub mod controller;
+mod dense;
 mod failure;
 mod ffi;
 pub mod float;
@@ -11,7 +13,8 @@ mod stepping;
 pub mod tableau;
 mod time_difference;
 
+pub use dense::StiffSegment;
 pub use failure::Failure;
 pub use float::sqrt;
-pub use stepping::{checked_time, endpoint_step};
+pub use stepping::{checked_time, endpoint_step, initial_step, scaled_error_norm};
 pub use time_difference::{TimeDifferencePolicy, partial};

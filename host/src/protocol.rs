@@ -2,17 +2,25 @@
 //! the port does not have is answered `bad command NAME`.
 pub mod text;
 
+use crate::controller::{
+    AdaptiveController, ControllerConfig, ControllerError, ControllerState, MinimumStepPolicy,
+};
 use crate::linear::{self, DenseLu};
-use crate::{Failure, TimeDifferencePolicy, checked_time, endpoint_step, partial, sqrt};
+use crate::{
+    Failure, StiffSegment, TimeDifferencePolicy, checked_time, endpoint_step, initial_step,
+    partial, scaled_error_norm, sqrt,
+};
 use std::io::{self, BufRead, Write};
 use text::{Args, double, numbers, option, vector};
 
 /// What a command answers; `Err` where the line is wrong and nothing was called.
 pub type Answer = Result<String, String>;
 
-/// What is kept from one line to the next. Nothing yet: no command here has a state.
+/// What is kept from one line to the next.
 #[derive(Default)]
-pub struct Host {}
+pub struct Host {
+    controller: Option<AdaptiveController>,
+}
 
 impl Host {
     /// The answer to one command, comments and spaces around it taken off.
@@ -35,6 +43,10 @@ impl Host {
             "lusolve" => self.lusolve(args),
             "rawlu" => self.rawlu(args),
             "rawsolve" => self.rawsolve(args),
+            "norm" => self.norm(args),
+            "initial_step" => self.initial_step(args),
+            "segment" => self.segment(args),
+            "ctl" => self.control(args),
             _ => Err(format!("command {name}")),
         }
     }
@@ -107,6 +119,158 @@ impl Host {
         let told = refused(linear::solve(&factors, &pivots, &mut x, n));
         Ok(format!("{told} {}", vector(&x)))
     }
+}
+
+impl Host {
+    fn norm(&mut self, args: &Args<'_>) -> Answer {
+        let (state, candidate, error) = (args.vector(3)?, args.vector(4)?, args.vector(5)?);
+        let (absolute, relative) = (args.double(1)?, args.double(2)?);
+        let answer = scaled_error_norm(&state, &candidate, &error, absolute, relative);
+        Ok(told(answer, double))
+    }
+
+    fn initial_step(&mut self, args: &Args<'_>) -> Answer {
+        let (state, derivative, scales) = (args.vector(1)?, args.vector(2)?, args.vector(3)?);
+        let (direction, maximum) = (args.double(4)?, args.double(5)?);
+        let answer = initial_step(&state, &derivative, &scales, direction, maximum);
+        Ok(told(answer, double))
+    }
+
+    fn segment(&mut self, args: &Args<'_>) -> Answer {
+        let (start_state, end_state) = (args.vector(3)?, args.vector(4)?);
+        let (corrections, mut output) = (args.vector(5)?, args.vector(8)?);
+        let segment = StiffSegment {
+            start_time: args.double(1)?,
+            end_time: args.double(2)?,
+            start_state: &start_state,
+            end_state: &end_state,
+            corrections: &corrections,
+            order: args.number(6)?,
+        };
+        let told = refused(segment.interpolate(args.double(7)?, &mut output));
+        Ok(format!("{told} {}", vector(&output)))
+    }
+
+    fn control(&mut self, args: &Args<'_>) -> Answer {
+        match args.token(1)? {
+            "new" => {
+                let made =
+                    AdaptiveController::new(settings(args)?, args.named_double("step", 1.0)?);
+                Ok(match made {
+                    Ok(controller) => {
+                        self.controller = Some(controller);
+                        format!("ok {}", history(controller.state()))
+                    }
+                    Err(error) => uncontrolled(error),
+                })
+            }
+            "state" => Ok(format!("ok {}", history(self.controller()?.state()))),
+            "restore" => {
+                let state = state(args)?;
+                let controller = self.controller()?;
+                let answer = controller.restore(state);
+                Ok(settled(answer, controller))
+            }
+            "reset" => {
+                let step = args.double(2)?;
+                let controller = self.controller()?;
+                let answer = controller.reset(step);
+                Ok(settled(answer, controller))
+            }
+            "assess" => {
+                let (step, error) = (args.double(2)?, args.double(3)?);
+                let controller = self.controller()?;
+                let product = option(controller.product(step, error));
+                let told = match controller.assess(step, error) {
+                    Ok(decision) => format!(
+                        "ok accepted={} forced={} next_step={}",
+                        u8::from(decision.accepted),
+                        u8::from(decision.forced),
+                        double(decision.next_step)
+                    ),
+                    Err(error) => uncontrolled(error),
+                };
+                Ok(format!(
+                    "{told} product={product} {}",
+                    history(controller.state())
+                ))
+            }
+            name => Err(format!("ctl {name}")),
+        }
+    }
+
+    fn controller(&mut self) -> Result<&mut AdaptiveController, String> {
+        self.controller.as_mut().ok_or("no controller".into())
+    }
+}
+
+fn settled(answer: Result<(), ControllerError>, controller: &AdaptiveController) -> String {
+    let told = answer.map_or_else(uncontrolled, |()| "ok".into());
+    format!("{told} {}", history(controller.state()))
+}
+
+fn uncontrolled(error: ControllerError) -> String {
+    match error {
+        ControllerError::Configuration => "err 7 Configuration".into(),
+        ControllerError::MinimumStep { error } => {
+            format!("err 16 MinimumStep error={}", double(error))
+        }
+    }
+}
+
+fn history(state: ControllerState) -> String {
+    format!(
+        "errs={} rej={} next={} count={}",
+        vector(&state.accepted_errors),
+        u8::from(state.rejected_since_acceptance),
+        double(state.next_step),
+        state.consecutive_rejections
+    )
+}
+
+/// order= and the settings, each the default's where it is left out.
+fn settings(args: &Args<'_>) -> Result<ControllerConfig, String> {
+    let order = args
+        .named("order")
+        .map_or(Ok(1), |t| t.parse())
+        .map_err(|_| "order")?;
+    let default = ControllerConfig::proportional(order).map_err(uncontrolled)?;
+    let beta = args.named_vector("beta", &default.beta)?;
+    let history = args.named_vector("hist", &default.initial_error_history)?;
+    Ok(ControllerConfig {
+        beta: beta.try_into().map_err(|_| "three betas")?,
+        safety: args.named_double("safety", default.safety)?,
+        minimum_factor: args.named_double("minf", default.minimum_factor)?,
+        maximum_factor: args.named_double("maxf", default.maximum_factor)?,
+        rejection_maximum: args.named_double("rejmax", default.rejection_maximum)?,
+        rejected_acceptance_maximum: args
+            .named_double("accmax", default.rejected_acceptance_maximum)?,
+        minimum_step: args.named_double("minstep", default.minimum_step)?,
+        maximum_step: args.named_double("maxstep", default.maximum_step)?,
+        minimum_step_policy: match args.named("policy") {
+            None | Some("error") => MinimumStepPolicy::Error,
+            Some("force") => MinimumStepPolicy::ForceAccept,
+            _ => return Err("policy".into()),
+        },
+        initial_error_history: history.try_into().map_err(|_| "two errors")?,
+        error_history_floor: args.named_double("floor", default.error_history_floor)?,
+        accept_equal: args.named("eq").is_none_or(|t| t != "0"),
+        rejection_exponent: args.named_option("rejexp")?,
+        repeated_rejection_maximum: args.named_option("repmax")?,
+    })
+}
+
+fn state(args: &Args<'_>) -> Result<ControllerState, String> {
+    let errors = args.named_vector("errs", &[1.0, 1.0])?;
+    Ok(ControllerState {
+        accepted_errors: errors.try_into().map_err(|_| "two errors")?,
+        rejected_since_acceptance: args.named("rej").is_some_and(|t| t != "0"),
+        next_step: args.named_double("next", 1.0)?,
+        consecutive_rejections: args
+            .named("count")
+            .map_or(Ok(0), |t| t.parse())
+            .map_err(|_| "count")?,
+    })
 }
 
 /// `ok`, or `err` and the refusal.

@@ -68,14 +68,81 @@ pub const COMMANDS: &[Command] = &[
         line: rawsolve,
         classes: &["ok"],
     },
+    Command {
+        name: "norm",
+        line: norm,
+        classes: &["ok normal", "ok zero", "ok infinite"],
+    },
+    Command {
+        name: "initial_step",
+        line: first_step,
+        classes: &[
+            "ok normal",
+            "ok subnormal",
+            "err 1",
+            "err 2",
+            "err 4",
+            "err 9",
+        ],
+    },
+    Command {
+        name: "segment",
+        line: segment,
+        classes: &["ok", "err 1", "err 10", "err 11"],
+    },
+    Command {
+        name: "ctl new",
+        line: ctl_new,
+        classes: &["ok", "err 7"],
+    },
+    Command {
+        name: "ctl assess",
+        line: ctl_assess,
+        classes: &["ok", "accepted", "forced", "rejected", "err 7", "err 16"],
+    },
+    Command {
+        name: "ctl restore",
+        line: ctl_restore,
+        classes: &["ok", "err 7"],
+    },
+    Command {
+        name: "ctl reset",
+        line: ctl_reset,
+        classes: &["ok", "err 7"],
+    },
 ];
+
+/// What is compared of an answer. A segment's refusal has other names in the original, and its
+/// first step shows its two norms; where these lead it to logarithms, the port answers 9.
+pub fn compared(line: &str, answer: &str) -> String {
+    let words: Vec<&str> = answer.split(' ').collect();
+    match (line.split(' ').next(), &words[..]) {
+        (Some("segment"), ["err", number, _, output]) => format!("err {number} {output}"),
+        (Some("initial_step"), [told @ .., d0, d1]) if d0.starts_with("d0=") => {
+            let norm = |word: &str| {
+                let bits = u64::from_str_radix(&word[3..], 16);
+                f64::from_bits(bits.expect("a norm"))
+            };
+            let (d0, d1) = (norm(d0), norm(d1));
+            let logarithms = d0 >= 1e-5 && d1 >= 1e-5 && d0.max(d1).is_infinite();
+            match (told, logarithms) {
+                (["ok", _] | ["err", "5", _], true) => "err 9 FirstStep".into(),
+                _ => told.join(" "),
+            }
+        }
+        _ => answer.into(),
+    }
+}
 
 /// The kind of an answer: the refusal's number, how many values, or what the one value is.
 pub fn class(line: &str, answer: &str) -> String {
     let words: Vec<&str> = answer.split(' ').collect();
     let kind = match words[..] {
         ["err", number, ..] => return format!("err {number}"),
-        ["ok", x, ..] if x.starts_with('[') => return "ok".into(),
+        ["ok", "accepted=1", "forced=1", ..] => return "forced".into(),
+        ["ok", "accepted=1", ..] => return "accepted".into(),
+        ["ok", "accepted=0", ..] => return "rejected".into(),
+        ["ok", x, ..] if x.starts_with('[') || x.starts_with("errs=") => return "ok".into(),
         ["ok", _, "-"] => "one",
         ["ok", _, _] => "two",
         ["ok", x] => u64::from_str_radix(x, 16).map_or("no number", |x| kind(f64::from_bits(x))),
@@ -387,4 +454,259 @@ fn rawsolve(r: &mut Random) -> String {
         numbers(&pivots),
         vector(&x)
     )
+}
+
+// ---- norm, first step, segment
+
+/// Finite doubles of one size, or of any.
+fn finites(r: &mut Random, n: usize) -> Vec<f64> {
+    let by = power(r.below(2000) as i64 - 1000);
+    match r.below(4) {
+        0 => (0..n).map(|_| r.finite()).collect(),
+        1 => (0..n).map(|_| r.pick(&[0.0, -0.0, by, -by])).collect(),
+        _ => (0..n).map(|_| (r.unit() - 0.5) * by).collect(),
+    }
+}
+
+/// The original tests nothing here: what the port would refuse is left out.
+fn norm(r: &mut Random) -> String {
+    let n = dimension(r);
+    let state = finites(r, n);
+    let candidate = if r.chance(50) {
+        finites(r, n)
+    } else {
+        state.clone()
+    };
+    let error = match r.below(4) {
+        0 => vec![0.0; n],
+        1 => (0..n).map(|_| r.subnormal()).collect(),
+        _ => finites(r, n),
+    };
+    let (absolute, relative) = match r.below(3) {
+        0 => (1e-6, 1e-3),
+        _ => (r.positive(), r.positive()),
+    };
+    format!(
+        "norm {} {} {} {} {}",
+        double(absolute),
+        double(relative),
+        vector(&state),
+        vector(&candidate),
+        vector(&error)
+    )
+}
+
+fn first_step(r: &mut Random) -> String {
+    let n = dimension(r);
+    let mut parts = [
+        finites(r, n),
+        finites(r, n),
+        (0..n).map(|_| r.positive()).collect(),
+    ];
+    if r.chance(50) {
+        // ordinary norms
+        parts = parts.map(|p| p.iter().map(|_| 0.1 + r.unit() * 10.0).collect());
+    }
+    let (mut direction, mut maximum) = (r.sign(), r.positive());
+    let which = r.below(3) as usize;
+    let k = r.below(n as u64) as usize;
+    match r.below(16) {
+        0 => drop(parts[which].pop()),
+        1 => parts[which][k] = r.pick(&[f64::NAN, f64::INFINITY]),
+        2 => parts[2][k] = r.pick(&[0.0, -0.0, -1.0]),
+        3 => direction = r.double(),
+        4 => maximum = r.double(),
+        5 | 6 => {
+            // a ratio that overflows
+            parts[which % 2][k] = 1e300;
+            parts[2][k] = 1e-300;
+        }
+        _ => {}
+    }
+    let [state, derivative, scales] = parts.map(|p| vector(&p));
+    format!(
+        "initial_step {state} {derivative} {scales} {} {}",
+        double(direction),
+        double(maximum)
+    )
+}
+
+fn segment(r: &mut Random) -> String {
+    let n = dimension(r);
+    let mut order = 2 + r.below(3) as usize;
+    let mut start = r.finite();
+    let mut end = match r.below(4) {
+        0 => r.finite(),
+        1 => r.near(start),
+        _ => start + r.sign() * r.positive(),
+    };
+    let mut states = [
+        finites(r, n),
+        finites(r, n),
+        finites(r, n * order),
+        vec![7.0; n],
+    ];
+    let time = match r.below(8) {
+        0 => start,
+        1 => end,
+        2 => r.double(),
+        3 => {
+            let x = r.pick(&[start, end]);
+            r.near(x)
+        }
+        _ => start + (end - start) * r.unit(),
+    };
+    let which = r.below(4) as usize;
+    let k = r.below(n as u64) as usize;
+    match r.below(16) {
+        0 => drop(states[which].pop()),
+        1 => states[which % 3][k] = r.pick(&[f64::NAN, f64::INFINITY]),
+        2 => order = r.pick(&[0, 1, 5, 6]),
+        3 => end = start,
+        4 if r.chance(50) => start = f64::NAN,
+        4 => end = f64::INFINITY,
+        5 => states[3].push(7.0),
+        _ => {}
+    }
+    let [start_state, end_state, corrections, output] = states.map(|p| vector(&p));
+    format!(
+        "segment {} {} {start_state} {end_state} {corrections} {order} {} {output}",
+        double(start),
+        double(end),
+        double(time)
+    )
+}
+
+// ---- the controller
+
+const STEPS: &[f64] = &[0.001, 0.01, 0.5, 1.0, 2.0, 10.0];
+
+fn step(r: &mut Random) -> f64 {
+    match r.below(12) {
+        0 => r.double(),
+        1 => r.subnormal(),
+        2 => r.positive() * r.sign(),
+        _ => {
+            let x = r.pick(STEPS) * r.sign();
+            if r.chance(30) { r.near(x) } else { x }
+        }
+    }
+}
+
+/// `key=` and a value, mostly one that is valid.
+fn assigned(r: &mut Random, key: &str, valid: &[f64]) -> String {
+    let x = match r.below(60) {
+        0 => r.double(),
+        1 => {
+            let x = r.pick(valid);
+            r.near(x)
+        }
+        _ => r.pick(valid),
+    };
+    format!(" {key}={}", double(x))
+}
+
+fn settings(r: &mut Random) -> String {
+    let mut text = String::new();
+    let exponents = [0.5, 0.25, 1.0 / 3.0, 0.7, 2.0, 400.0];
+    let others = [0.0, -0.2, 0.4, -0.08, 300.0, -300.0];
+    match r.below(3) {
+        0 => text += &format!(" order={}", 1 + r.below(8)),
+        _ => {
+            let mut beta = [r.pick(&exponents), r.pick(&others), r.pick(&others)];
+            if r.chance(3) {
+                beta[r.below(3) as usize] = r.double();
+            }
+            text += &format!(" beta={}", vector(&beta));
+        }
+    }
+    for (key, valid) in [
+        ("safety", &[0.9, 0.8, 1.0, 2.0][..]),
+        ("minf", &[0.2, 0.1, 0.5, 1.0]),
+        ("maxf", &[5.0, 10.0, 1.0, 1e300]),
+        ("rejmax", &[0.5, 0.9, 1.0, 0.25]),
+        ("accmax", &[1.0, 0.5, 2.0, 1e300]),
+        ("minstep", &[0.0, 0.001, 0.5, 1.0, 5e-324]),
+        ("maxstep", &[10.0, 1.0, 2.0, f64::MAX]),
+        ("floor", &[1e-4, 1.0, f64::MIN_POSITIVE, 5e-324]),
+    ] {
+        if r.chance(40) {
+            text += &assigned(r, key, valid);
+        }
+    }
+    if r.chance(30) {
+        let history = [r.positive(), r.pick(&[1.0, 1e-300, 1e300])];
+        text += &format!(" hist={}", vector(&history));
+    }
+    if r.chance(30) {
+        text += &assigned(r, "rejexp", &[0.2, 0.5, 1.0]);
+    }
+    if r.chance(30) {
+        text += &assigned(r, "repmax", &[0.1, 0.25, 0.5, 1.0]);
+    }
+    if r.chance(40) {
+        text += " policy=force";
+    }
+    if r.chance(50) {
+        text += " eq=0";
+    }
+    text
+}
+
+fn ctl_new(r: &mut Random) -> String {
+    let settings = settings(r);
+    format!("ctl new step={}{settings}", double(step(r)))
+}
+
+fn error(r: &mut Random) -> f64 {
+    match r.below(16) {
+        0 => r.double(),
+        1 => r.pick(&[0.0, -0.0, f64::INFINITY]),
+        2 => r.subnormal().abs(),
+        3..=6 => r.near(1.0),
+        7..=9 => r.unit(),
+        10..=12 => 1.0 + r.unit() * 10.0,
+        _ => r.positive(),
+    }
+}
+
+fn ctl_assess(r: &mut Random) -> String {
+    match r.below(25) {
+        0 => ctl_new(r),
+        1 => "ctl state".into(),
+        _ => {
+            let step = step(r);
+            format!("ctl assess {} {}", double(step), double(error(r)))
+        }
+    }
+}
+
+fn ctl_restore(r: &mut Random) -> String {
+    if r.chance(5) {
+        return ctl_new(r);
+    }
+    let errors = [
+        r.positive(),
+        if r.chance(90) {
+            r.positive()
+        } else {
+            r.double()
+        },
+    ];
+    let count = r.below(3);
+    let marked = if r.chance(85) { count > 0 } else { count == 0 };
+    format!(
+        "ctl restore errs={} rej={} next={} count={count}",
+        vector(&errors),
+        u8::from(marked),
+        double(step(r))
+    )
+}
+
+fn ctl_reset(r: &mut Random) -> String {
+    match r.below(10) {
+        0 => ctl_new(r),
+        1 | 2 => ctl_restore(r),
+        _ => format!("ctl reset {}", double(step(r))),
+    }
 }

@@ -82,13 +82,14 @@ fn the_original() {
     let mut total = Tally::default();
     let mut rare = Vec::new();
     for command in script::COMMANDS {
-        let mut host = Host::default();
         let mut tally = Tally::default();
         let mut classes = BTreeMap::new();
-        // by parts, so that not all lines are kept at once
+        // by parts, so that not all lines are kept at once; a part starts with a controller
         while tally.compared < count {
             let part = (count - tally.compared).min(10_000);
-            let lines: Vec<String> = (0..part).map(|_| (command.line)(&mut random)).collect();
+            let first = "ctl new".to_string();
+            let lines = (1..part).map(|_| (command.line)(&mut random));
+            let lines: Vec<String> = std::iter::once(first).chain(lines).collect();
             let answers = original(&oracle, &lines);
             assert_eq!(
                 answers.len(),
@@ -96,9 +97,14 @@ fn the_original() {
                 "{}: the oracle's answers",
                 command.name
             );
+            let mut host = Host::default();
             for (line, answer) in lines.iter().zip(&answers) {
-                tally.case(seed, || line.clone(), &host.answer(line), answer);
-                *classes.entry(script::class(line, answer)).or_insert(0) += 1;
+                let expected = script::compared(line, answer);
+                let port = script::compared(line, &host.answer(line));
+                tally.case(seed, || line.clone(), &port, &expected);
+                if line != &lines[0] {
+                    *classes.entry(script::class(line, &expected)).or_insert(0) += 1;
+                }
             }
         }
         println!("{}: {classes:?}", command.name);

@@ -13,6 +13,18 @@ use Rattle.time_difference.specs.declared.Probes.{Probes}
 use Rattle.time_difference.specs.declared.Probes.the-variants as probes
 use Rattle.tableau.specs.declared.Sameness.{Sameness}
 use Rattle.tableau.specs.declared.Sameness.the-variants as sameness
+use Rattle.norm.specs.declared.Norm.{Norm}
+use Rattle.norm.specs.declared.Norm.the-variants as norm
+use Rattle.initial_step.specs.declared.FirstStep.{FirstStep}
+use Rattle.initial_step.specs.declared.FirstStep.the-variants as first
+use Rattle.controller.specs.declared.AdaptiveController.{AdaptiveController}
+use Rattle.controller.specs.declared.NextStep.{NextStep}
+use Rattle.controller.specs.declared.NextStep.the-variants as next
+use Rattle.controller.specs.declared.Assessment.{Assessment}
+use Rattle.controller.specs.declared.Assessment.the-variants as assessment
+use Rattle.controller.specs.declared.Assessed.{Assessed}
+use Rattle.stepping.specs.Refusals.{minimumStep}
+use Rattle.host.specs.declared.AssessAnswer.{AssessAnswer}
 use Rattle.host.specs.declared.SameAnswer.{SameAnswer}
 use Rattle.host.specs.declared.Answer.{Answer}
 use Rattle.host.specs.declared.ProbeTimes.{ProbeTimes}
@@ -34,6 +46,31 @@ unfoldable pub ofSameness : Sameness → SameAnswer
 ofSameness sameness.Same = record { number = 0; same = true }
 ofSameness sameness.Other = record { number = 0; same = false }
 ofSameness (sameness.Refused k) = record { number = k; same = false }
+
+unfoldable pub ofNorm : Norm → Answer
+ofNorm (norm.Value x) = record { number = 0; value = x }
+ofNorm (norm.Refused k) = record { number = k; value = 𝟎 }
+
+unfoldable pub ofFirstStep : FirstStep → Answer
+ofFirstStep (first.Step x) = record { number = 0; value = x }
+ofFirstStep (first.Refused k) = record { number = k; value = 𝟎 }
+
+unfoldable pub ofNextStep : NextStep → Answer
+ofNextStep (next.Step x) = record { number = 0; value = x }
+ofNextStep (next.Refused k) = record { number = k; value = 𝟎 }
+
+-- the controller after the call, with what was decided, or the number of the refusal, and the error with 16
+unfoldable pub ofAssessment : AdaptiveController → Assessment → AssessAnswer
+ofAssessment k (assessment.Decision d) =
+    record { controller = k; number = 0; accepted = d .accepted; forced = d .forced; «next_step» = d .«next_step»; error = 𝟎 }
+ofAssessment k (assessment.Refused n) =
+    record { controller = k; number = n; accepted = false; forced = false; «next_step» = 𝟎; error = 𝟎 }
+ofAssessment k (assessment.MinimumStep err) =
+    record { controller = k; number = minimumStep; accepted = false; forced = false; «next_step» = 𝟎; error = err }
+
+unfoldable pub ofAssessed : Assessed → AssessAnswer
+unfolding ofAssessment
+ofAssessed a = ofAssessment (a .controller) (a .answer)
 
 -- the policy that the host hands over as its numbers
 abbrev pub policyOf : Float → Float → Float → Bool → Float → Float → TimeDifferencePolicy

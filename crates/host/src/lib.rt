@@ -1,6 +1,7 @@
 // The calls for a host in another language, under C's calling convention: an answer that is an enum
 // is handed out as numbers. No logic of its own.
 ghost use mathlib.Core.Path.{_≡_};
+ghost use mathlib.Core.List.{[], _∷_};
 ghost use lib.Ieee.{isNan};
 ghost use lib.Ieee.Scale.{finite};
 ghost use Rattle.float.specs.Methods.{abs, maxNum, minNum, clamp, signum};
@@ -9,12 +10,28 @@ ghost use Rattle.stepping.specs.Time.{checkedTime, endpointStep};
 ghost use Rattle.time_difference.specs.Policy.{defaultPolicy, probes};
 ghost use Rattle.time_difference.specs.Probes.{partial};
 ghost use Rattle.linear.specs.Calls.{numberOf, factorizeOf, solved, solveOf};
+ghost use Rattle.norm.specs.ScaledErrorNorm.{scaledErrorNorm};
+ghost use Rattle.dense.specs.Segment.{segment};
+ghost use Rattle.dense.specs.Interpolation.{outcome, interpolate};
+ghost use Rattle.settings.specs.Presets.{pid, pi, proportional};
+ghost use Rattle.controller.specs.Assess.{assess};
+ghost use Rattle.controller.specs.Calls.{new, restore, reset, readNextStep};
+ghost use Rattle.initial_step.specs.First.{initialStep};
 ghost use Rattle.host.specs.Factors.{handed, numbered, rawTested};
 ghost use Rattle.tableau.specs.Tableau.{present, stagesOf, gammaOf, aOf, couplingOf, cOf, dOf, bOf, btildeOf};
 ghost use Rattle.tableau.specs.File.{tableauOf, check};
 ghost use Rattle.tableau.specs.Same.{same};
-ghost use Rattle.host.specs.Answers.{ofChecked, ofEndpoint, ofProbes, policyOf, ofSameness};
+ghost use Rattle.host.specs.Answers.{ofChecked, ofEndpoint, ofProbes, policyOf, ofSameness, ofNorm, ofFirstStep, ofNextStep, ofAssessed};
+use controller::AdaptiveController;
+use controller::Assessment;
+use controller::NextStep;
+use controller::Settled;
+use initial_step::FirstStep;
 use linear::Factorization;
+use norm::Norm;
+use settings::ControllerConfig;
+use settings::ControllerState;
+use settings::Settings;
 use stepping::Checked;
 use stepping::Endpoint;
 use tableau::Sameness;
@@ -44,6 +61,18 @@ pub struct ProbeTimes {
 pub struct SameAnswer {
     pub number: u32,
     pub same: bool,
+}
+
+// number: the refusal, 0 for none. Without a decision accepted and forced are false and next_step is
+// 0; error is 0 but for 16.
+#[repr(C)]
+pub struct AssessAnswer {
+    pub controller: AdaptiveController,
+    pub number: u32,
+    pub accepted: bool,
+    pub forced: bool,
+    pub next_step: f64,
+    pub error: f64,
 }
 
 #[no_mangle]
@@ -332,4 +361,159 @@ pub extern "C" fn wiqhano_tableau_btilde(file: &[u8], i: usize) -> f64
     ensures { λ r. ⌜ r ≡ btildeOf (tableauOf (now (file .entry))) i ⌝ }
 {
     tableau::btilde(file, i)
+}
+
+#[no_mangle]
+pub extern "C" fn wiqhano_scaled_error_norm<'a>(
+    state: &'a [f64],
+    candidate: &'a [f64],
+    error: &'a [f64],
+    absolute: f64,
+    relative: f64,
+) -> Answer
+    ensures { λ r. ⌜ r ≡ ofNorm (scaledErrorNorm absolute relative (now (state .entry)) (now (candidate .entry)) (now (error .entry))) ⌝ }
+{
+    match norm::scaled_error_norm(state, candidate, error, absolute, relative) {
+        Norm::Value(value) => Answer { number: 0, value },
+        Norm::Refused(number) => Answer { number, value: 0.0 },
+    }
+}
+
+#[no_mangle]
+pub extern "C" fn wiqhano_interpolate<'a>(
+    start_time: f64,
+    end_time: f64,
+    start_state: &'a [f64],
+    end_state: &'a [f64],
+    corrections: &'a [f64],
+    order: usize,
+    time: f64,
+    output: &mut [f64],
+) -> u32
+    ensures { λ r. ⌜ outcome r (now (output .exit)) ≡ interpolate (segment «start_time» «end_time» (now («start_state» .entry)) (now («end_state» .entry)) (now (corrections .entry)) order) time (now (output .entry)) ⌝ }
+{
+    dense::interpolate(
+        start_time,
+        end_time,
+        start_state,
+        end_state,
+        corrections,
+        order,
+        time,
+        output,
+    )
+}
+
+#[no_mangle]
+pub extern "C" fn wiqhano_initial_step<'a>(
+    state: &'a [f64],
+    derivative: &'a [f64],
+    scales: &'a [f64],
+    direction: f64,
+    maximum: f64,
+) -> Answer
+    ensures { λ r. ⌜ r ≡ ofFirstStep (initialStep (now (state .entry)) (now (derivative .entry)) (now (scales .entry)) direction maximum) ⌝ }
+{
+    match initial_step::initial_step(state, derivative, scales, direction, maximum) {
+        FirstStep::Step(value) => Answer { number: 0, value },
+        FirstStep::Refused(number) => Answer { number, value: 0.0 },
+    }
+}
+
+#[no_mangle]
+pub extern "C" fn wiqhano_controller_proportional(error_order: u64) -> Settings
+    ensures { λ r. ⌜ r ≡ proportional «error_order» ⌝ }
+{
+    ControllerConfig::proportional(error_order)
+}
+
+#[no_mangle]
+pub extern "C" fn wiqhano_controller_pi(beta1: f64, beta2: f64) -> ControllerConfig
+    ensures { λ r. ⌜ r ≡ pi beta1 beta2 ⌝ }
+{
+    ControllerConfig::pi(beta1, beta2)
+}
+
+#[no_mangle]
+pub extern "C" fn wiqhano_controller_pid(beta1: f64, beta2: f64, beta3: f64) -> ControllerConfig
+    ensures { λ r. ⌜ r ≡ pid (beta1 ∷ beta2 ∷ beta3 ∷ []) ⌝ }
+{
+    ControllerConfig::pid([beta1, beta2, beta3])
+}
+
+#[no_mangle]
+pub extern "C" fn wiqhano_controller_new(config: ControllerConfig, initial_step: f64) -> Settled
+    ensures { λ r. ⌜ r ≡ new config «initial_step» ⌝ }
+{
+    AdaptiveController::new(config, initial_step)
+}
+
+#[no_mangle]
+pub extern "C" fn wiqhano_controller_restore(
+    controller: AdaptiveController,
+    state: ControllerState,
+) -> Settled
+    ensures { λ r. ⌜ r ≡ restore controller state ⌝ }
+{
+    controller.restore(state)
+}
+
+#[no_mangle]
+pub extern "C" fn wiqhano_controller_reset(
+    controller: AdaptiveController,
+    next_step: f64,
+) -> Settled
+    ensures { λ r. ⌜ r ≡ reset controller «next_step» ⌝ }
+{
+    controller.reset(next_step)
+}
+
+#[no_mangle]
+pub extern "C" fn wiqhano_controller_next_step(controller: AdaptiveController) -> Answer
+    ensures { λ r. ⌜ r ≡ ofNextStep (readNextStep controller) ⌝ }
+{
+    match controller.next_step() {
+        NextStep::Step(value) => Answer { number: 0, value },
+        NextStep::Refused(number) => Answer { number, value: 0.0 },
+    }
+}
+
+#[no_mangle]
+pub extern "C" fn wiqhano_controller_assess(
+    controller: AdaptiveController,
+    step: f64,
+    error: f64,
+    product: f64,
+) -> AssessAnswer
+    ensures { λ r. ⌜ r ≡ ofAssessed (assess controller step error product) ⌝ }
+{
+    let assessed = controller.assess(step, error, product);
+    let after = assessed.controller;
+    let answer = assessed.answer;
+    match answer {
+        Assessment::Decision(decision) => AssessAnswer {
+            controller: after,
+            number: 0,
+            accepted: decision.accepted,
+            forced: decision.forced,
+            next_step: decision.next_step,
+            error: 0.0,
+        },
+        Assessment::Refused(number) => AssessAnswer {
+            controller: after,
+            number,
+            accepted: false,
+            forced: false,
+            next_step: 0.0,
+            error: 0.0,
+        },
+        Assessment::MinimumStep(error) => AssessAnswer {
+            controller: after,
+            number: stepping::MINIMUM_STEP,
+            accepted: false,
+            forced: false,
+            next_step: 0.0,
+            error,
+        },
+    }
 }

@@ -1,21 +1,21 @@
 -- The larger magnitude of two finite numbers is the larger of them or the negative of the smaller, whichever is the larger. Assumes nothing.
-use mathlib.Core.Path.{_≡_, refl, sym, ap, _∙_, subst}
-use Prim.Native.Nat.{ℕ, zero, suc, _+_, _-_, _*_, _<_}
+use mathlib.Core.Path.{_≡_, refl, sym, ap, _∙_}
+use Prim.Native.Nat.{ℕ, zero, suc, _+_, _*_, _<_}
 use native.Mathlib.Nat.{zero-mul, zero-lt-suc, mul-pos}
 use native.Mathlib.Omega.{arith}
-use mathlib.Core.Bool.{Bool, true, false, cond, true≢false}
+use mathlib.Core.Bool.{Bool, true, false, true≢false}
 use lib.IntN.{ℤ}
 use lib.Dec.{T, ltb}
-use lib.Ieee.{Float, nan, inf, fin, binary64, up, down, isNan, lt, fits, round, add, sub, neg, sum, ofBits}
+use lib.Ieee.{Float, nan, inf, fin, binary64, up, down, isNan, lt, fits}
 use lib.Ieee.Fits.{down-pos, up-pos}
 use lib.Ieee.Scale.{finite}
 use borrow.Author.Tests.{lt-ltb, le-ltb, ltb-true, ltb-false}
 use Rattle.float.specs.Operators.{_⊖_, 𝟎}
 use Rattle.float.specs.Methods.{abs, maxNum}
 use Rattle.float.proofs.Cases.{yes, no, by}
-use Rattle.float.proofs.Laws.{some, zero-exp}
-use Rattle.float.proofs.Own.{value-one, abs-rest}
-use Rattle.float.proofs.Zeros.{negative, round-sign}
+use Rattle.float.proofs.Laws.{zero-exp}
+use Rattle.float.proofs.Negatives.{minus-zero, minus-some}
+use Rattle.float.proofs.Own.{value-one}
 use Rattle.norm.specs.Steps.{larger, largerMagnitude}
 
 -- ---- two plain values of one size are one value
@@ -37,47 +37,25 @@ nothing a b = ap (λ (x : ℕ). x * down b) (zero-mul (up a)) ∙ zero-mul (down
 size : (m : ℕ) (e d : ℤ) → 0 < suc m * up e * down d
 size m e d = mul-pos (mul-pos (zero-lt-suc m) (up-pos e)) (down-pos d)
 
--- a size of 0 is that of a zero
-empty : (m : ℕ) (e d : ℤ) → m * up e * down d ≡ 0 → m ≡ 0
-empty zero e d h = refl
-empty (suc m) e d h = let p = size m e d in absurd (omega arith)
-
-below-some : (y : Float) (m : ℕ) (e : ℤ) → negative y ≡ true → lt y (fin false (suc m) e) ≡ true
-unfolding lt
-below-some nan m e h = absurd (true≢false (sym h))
-below-some (inf s) m e h = h
-below-some (fin true n d) m e h = let p = size m e d in lt-ltb 0 (n * up d * down e + suc m * up e * down d) (omega arith)
-below-some (fin false n d) m e h = absurd (true≢false (sym h))
-
-minus-sign : (m : ℕ) (e : ℤ) → negative (𝟎 ⊖ fin false (suc m) e) ≡ true
-unfolding sub add neg sum ofBits
-minus-sign m e =
-    let a = 0 * 1 * down e in
-    let b = suc m * up e * 1 in
-    let p : ltb a b ≡ true = lt-ltb a b (subst (λ (y : ℕ). y < b) (sym (zero-mul (down e))) (some m e)) in
-    ap (λ (t : Bool). negative (cond t (round binary64 true (b - a) (1 * down e)) (round binary64 false (a - b) (1 * down e)))) p
-    ∙ round-sign binary64 true (b - a) (1 * down e)
-
-not-above : (e : ℤ) → lt 𝟎 (fin false 0 e) ≡ false
-unfolding lt ofBits
-not-above e = le-ltb (0 * 1 * down e) (0 * up e * 1) (omega (arith, zero-mul (down e), zero-mul (up e)))
-
-minus-zero : (e : ℤ) → T (fits binary64 (fin false 0 e)) → 𝟎 ⊖ fin false 0 e ≡ fin false 0 e
-unfolding abs
-minus-zero e f = abs-rest (fin false 0 e) f (not-above e)
-
 zero-below : (d : ℤ) (m : ℕ) (e : ℤ) → lt (fin false 0 d) (fin false (suc m) e) ≡ true
 unfolding lt
 zero-below d m e = lt-ltb (0 * up d * down e) (suc m * up e * down d) (omega (arith, nothing d e, size m e d))
 
-minus-below : (n : ℕ) (d : ℤ) (m : ℕ) (e : ℤ) → T (fits binary64 (fin false n d)) → lt (𝟎 ⊖ fin false n d) (fin false (suc m) e) ≡ true
-minus-below zero d m e f = ap (λ (x : Float). lt x (fin false (suc m) e)) (minus-zero d f) ∙ zero-below d m e
-minus-below (suc n) d m e f = below-some (𝟎 ⊖ fin false (suc n) d) m e (minus-sign n d)
+some-below : (n : ℕ) (d : ℤ) (m : ℕ) (e : ℤ) → lt (fin true n d) (fin false (suc m) e) ≡ true
+unfolding lt
+some-below n d m e = lt-ltb 0 (n * up d * down e + suc m * up e * down d) (omega (arith, size m e d))
 
--- the negative of a value with a minus sign
+-- the negative of a zero, of a value below any above 0, and of a value with a minus sign
+minus-nothing : (s : Bool) (e : ℤ) → T (fits binary64 (fin s 0 e)) → 𝟎 ⊖ fin s 0 e ≡ fin false 0 e
+minus-nothing s e f = minus-zero s e ∙ ap (fin false 0) (sym (zero-exp binary64 s e f))
+
+minus-below : (n : ℕ) (d : ℤ) (m : ℕ) (e : ℤ) → T (fits binary64 (fin false n d)) → lt (𝟎 ⊖ fin false n d) (fin false (suc m) e) ≡ true
+minus-below zero d m e f = ap (λ (x : Float). lt x (fin false (suc m) e)) (minus-nothing false d f) ∙ zero-below d m e
+minus-below (suc n) d m e f = ap (λ (x : Float). lt x (fin false (suc m) e)) (minus-some false d n f) ∙ some-below (suc n) d m e
+
 minus-minus : (m : ℕ) (e : ℤ) → T (fits binary64 (fin true m e)) → 𝟎 ⊖ fin true m e ≡ fin false m e
-unfolding abs
-minus-minus m e f = abs-rest (fin true m e) f (unfold lt ofBits in refl)
+minus-minus zero e f = minus-nothing true e f
+minus-minus (suc m) e f = minus-some true e m f
 
 plain : (m : ℕ) (e : ℤ) → T (fits binary64 (fin true m e)) → T (fits binary64 (fin false m e))
 unfolding fits
@@ -137,7 +115,7 @@ minus-first m e zero d f g =
     let b = 0 * up d * down e in
     by (lt y z)
     (λ p. at-less y z p ∙ ap (λ (x : Float). larger x z) (minus-minus m e f))
-    (λ p. at-most y z p ∙ ap (λ (x : Float). larger x y) (minus-zero d g) ∙ no _ (le-ltb b a (omega (arith, ltb-false 0 (a + b) p))) refl ∙ turned m e 0 d (plain m e f) g)
+    (λ p. at-most y z p ∙ ap (λ (x : Float). larger x y) (minus-nothing false d g) ∙ no _ (le-ltb b a (omega (arith, ltb-false 0 (a + b) p))) refl ∙ turned m e 0 d (plain m e f) g)
 minus-first m e (suc n) d f g =
     let y = fin true m e in
     let z = fin false (suc n) d in
@@ -154,7 +132,7 @@ plain-both zero e zero d f g =
     let y = fin false 0 e in
     let z = fin false 0 d in
     let k : lt y z ≡ false = unfold lt in le-ltb (0 * up e * down d) (0 * up d * down e) (omega (arith, nothing e d, nothing d e)) in
-    at-most y z k ∙ ap (λ (x : Float). larger x y) (minus-zero d g)
+    at-most y z k ∙ ap (λ (x : Float). larger x y) (minus-nothing false d g)
     ∙ by (lt z y) (λ q. sym (yes _ q refl)) (λ q. sym (no _ q refl) ∙ zero-same d e g f)
     ∙ no _ k refl
 plain-both zero e (suc n) d f g =

@@ -1,10 +1,11 @@
-// Whether a step is accepted, and the next step: a chain of rules, each of which takes the number that the one before it left.
+// Whether a step is accepted, and the next step: a chain of rules, each of which takes the number
+// that the one before it left.
 ghost use mathlib.Core.Path.{_≡_};
 ghost use Rattle.proposal.specs.Rules.{withinTolerance, atMinimum, isForced, isAccepted, atLeast, atMost, startFactor, rejectionCap, repeatedCap, capAfterRejection, factor, limited, nextStep, decision};
 use settings::ControllerConfig;
 use settings::ControllerState;
 
-// Accepted or to be tried again; accepted only because no shorter step is allowed; the next step.
+// Accepted, or to be tried again; accepted only because no shorter step is allowed; the next step.
 #[repr(C)]
 pub struct StepDecision {
     pub accepted: bool,

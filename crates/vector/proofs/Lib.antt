@@ -3,3 +3,4 @@ pub mod Lists
 pub mod Stores
 pub mod Parts
 pub mod Matrices
+mod Four

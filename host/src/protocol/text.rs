@@ -114,6 +114,16 @@ impl<'a> Args<'a> {
         number.map_err(|_| format!("integer argument {i}"))
     }
 
+    pub fn named(&self, key: &str) -> Option<&'a str> {
+        self.named.get(key).copied()
+    }
+
+    pub fn named_vector(&self, key: &str, default: &[f64]) -> Result<Vec<f64>, String> {
+        self.named
+            .get(key)
+            .map_or(Ok(default.to_vec()), |t| to_vector(t))
+    }
+
     pub fn named_double(&self, key: &str, default: f64) -> Result<f64, String> {
         self.named.get(key).map_or(Ok(default), |t| to_double(t))
     }

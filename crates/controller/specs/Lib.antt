@@ -1,0 +1,2 @@
+pub mod Assess
+pub mod Calls

@@ -1,0 +1,2 @@
+pub mod Norm
+pub mod First

@@ -1,0 +1,219 @@
+// The controller's settings and state: which are valid, and the settings of a proportional, a PI
+// and a PID controller.
+ghost use mathlib.Core.Path.{_≡_};
+ghost use mathlib.Core.Bool.{_&&_, _||_};
+ghost use lib.IntN.{pos};
+ghost use lib.Ieee.{binary64, ofInt};
+ghost use Rattle.settings.specs.Valid.{finitePositive, fraction, validExponents, validFactors, validSteps, validHistory, validLimits, validSettings, validErrors};
+ghost use Rattle.settings.specs.Presets.{pid, pi, proportional};
+
+// Where a `has_` is false, the number after it is not read.
+#[repr(C)]
+pub struct ControllerConfig {
+    pub beta: [f64; 3],
+    pub safety: f64,
+    pub minimum_factor: f64,
+    pub maximum_factor: f64,
+    pub rejection_maximum: f64,
+    pub rejected_acceptance_maximum: f64,
+    pub minimum_step: f64,
+    pub maximum_step: f64,
+    pub force_accept: bool,
+    pub initial_error_history: [f64; 2],
+    pub error_history_floor: f64,
+    pub accept_equal: bool,
+    pub has_rejection_exponent: bool,
+    pub rejection_exponent: f64,
+    pub has_repeated_rejection_maximum: bool,
+    pub repeated_rejection_maximum: f64,
+}
+
+// The last two accepted errors, the recent one first; the rejections since; the next step.
+#[repr(C)]
+pub struct ControllerState {
+    pub accepted_errors: [f64; 2],
+    pub rejected_since_acceptance: bool,
+    pub next_step: f64,
+    pub consecutive_rejections: u64,
+}
+
+// Settings, and the refusal's number, 0 for none.
+#[repr(C)]
+pub struct Settings {
+    pub config: ControllerConfig,
+    pub refusal: u32,
+}
+
+// `&&` and `||` of two values: a caller stays without a branch.
+pub fn both(a: bool, b: bool) -> bool
+    ensures { λ r. ⌜ r ≡ (a && b) ⌝ }
+{
+    if a {
+        return b;
+    }
+    false
+}
+
+pub fn either(a: bool, b: bool) -> bool
+    ensures { λ r. ⌜ r ≡ (a || b) ⌝ }
+{
+    if a {
+        return true;
+    }
+    b
+}
+
+// x - x is 0 for a finite number, and a NaN for any other.
+fn positive(x: f64) -> bool
+    ensures { λ r. ⌜ r ≡ finitePositive x ⌝ }
+{
+    x - x < x
+}
+
+fn fraction(x: f64) -> bool
+    ensures { λ r. ⌜ r ≡ fraction x ⌝ }
+{
+    both(0.0 < x, x <= 1.0)
+}
+
+// A whole number as a double, rounded once: its halves, and the upper one's place, are exact.
+fn whole(n: u64) -> f64
+    ensures { λ r. ⌜ r ≡ ofInt binary64 (pos n) ⌝ }
+{
+    let high = n / 0x1_0000_0000;
+    let low = n % 0x1_0000_0000;
+    (high as f64) * 4294967296.0 + (low as f64)
+}
+
+impl ControllerConfig {
+    // The conventional proportional controller.
+    pub fn proportional(error_order: u64) -> Settings
+        ensures { λ r. ⌜ r ≡ proportional «error_order» ⌝ }
+    {
+        let config = ControllerConfig::pi(1.0 / whole(error_order), 0.0);
+        if error_order == 0 {
+            return Settings {
+                config,
+                refusal: stepping::CONFIGURATION,
+            };
+        }
+        Settings { config, refusal: 0 }
+    }
+
+    pub fn pi(beta1: f64, beta2: f64) -> ControllerConfig
+        ensures { λ r. ⌜ r ≡ pi beta1 beta2 ⌝ }
+    {
+        ControllerConfig::pid([beta1, beta2, 0.0])
+    }
+
+    pub fn pid(beta: [f64; 3]) -> ControllerConfig
+        ensures { λ r. ⌜ r ≡ pid beta ⌝ }
+    {
+        let initial_error_history = [1.0, 1.0];
+        ControllerConfig {
+            beta,
+            safety: 0.9,
+            minimum_factor: 0.2,
+            maximum_factor: 10.0,
+            rejection_maximum: 1.0,
+            rejected_acceptance_maximum: 1.0,
+            minimum_step: 0.0,
+            maximum_step: 1.7976931348623157e308,
+            force_accept: false,
+            initial_error_history,
+            error_history_floor: 2.2250738585072014e-308,
+            accept_equal: true,
+            has_rejection_exponent: false,
+            rejection_exponent: 0.0,
+            has_repeated_rejection_maximum: false,
+            repeated_rejection_maximum: 0.0,
+        }
+    }
+
+    fn exponents_valid(self) -> bool
+        ensures { λ r. ⌜ r ≡ validExponents self ⌝ }
+    {
+        let beta = self.beta;
+        let first = positive(beta[0]);
+        let second = float::is_finite(beta[1]);
+        let third = float::is_finite(beta[2]);
+        let rejection = either(
+            !self.has_rejection_exponent,
+            positive(self.rejection_exponent),
+        );
+        both(first, both(second, both(third, rejection)))
+    }
+
+    fn factors_valid(self) -> bool
+        ensures { λ r. ⌜ r ≡ validFactors self ⌝ }
+    {
+        let safety = positive(self.safety);
+        let least = fraction(self.minimum_factor);
+        let most = both(
+            self.minimum_factor <= self.maximum_factor,
+            float::is_finite(self.maximum_factor),
+        );
+        let rejection = fraction(self.rejection_maximum);
+        let acceptance = positive(self.rejected_acceptance_maximum);
+        let repeated = either(
+            !self.has_repeated_rejection_maximum,
+            fraction(self.repeated_rejection_maximum),
+        );
+        both(
+            safety,
+            both(
+                least,
+                both(most, both(rejection, both(acceptance, repeated))),
+            ),
+        )
+    }
+
+    fn steps_valid(self) -> bool
+        ensures { λ r. ⌜ r ≡ validSteps self ⌝ }
+    {
+        let minimum = both(
+            0.0 <= self.minimum_step,
+            self.minimum_step <= self.maximum_step,
+        );
+        both(minimum, positive(self.maximum_step))
+    }
+
+    fn history_valid(self) -> bool
+        ensures { λ r. ⌜ r ≡ validHistory self ⌝ }
+    {
+        let errors = self.initial_error_history;
+        let recent = positive(errors[0]);
+        let older = positive(errors[1]);
+        both(both(recent, older), positive(self.error_history_floor))
+    }
+
+    // All but the exponents.
+    fn limits_valid(self) -> bool
+        ensures { λ r. ⌜ r ≡ validLimits self ⌝ }
+    {
+        let factors = self.factors_valid();
+        let steps = self.steps_valid();
+        let history = self.history_valid();
+        both(factors, both(steps, history))
+    }
+
+    pub fn validate(self) -> bool
+        ensures { λ r. ⌜ r ≡ validSettings self ⌝ }
+    {
+        let exponents = self.exponents_valid();
+        let limits = self.limits_valid();
+        both(exponents, limits)
+    }
+}
+
+impl ControllerState {
+    // Whether both past errors are finite and positive.
+    pub fn errors_valid(self) -> bool
+        ensures { λ r. ⌜ r ≡ validErrors (self .«accepted_errors») ⌝ }
+    {
+        let errors = self.accepted_errors;
+        let recent = positive(errors[0]);
+        let older = positive(errors[1]);
+        both(recent, older)
+    }
+}
