@@ -4,6 +4,7 @@
 #[path = "../src/ffi.rs"]
 mod ffi;
 
+use ffi::{AdaptiveController, AssessAnswer, ControllerConfig, ControllerState, Settings, Settled};
 use ffi::{Answer, Bounds, ProbeTimes, SameAnswer, TimeDifferencePolicy as Policy};
 use std::mem::{align_of, offset_of, size_of};
 use wiqhano as _; // links the archive
@@ -34,6 +35,55 @@ fn sizes_and_offsets() {
     assert_eq!(offset_of!(Policy, relative_step), 8);
     assert_eq!(offset_of!(Policy, maximum_fraction), 16);
     assert_eq!(offset_of!(Policy, bounds), 24);
+}
+
+#[test]
+fn sizes_and_offsets_of_the_controller() {
+    type Config = ControllerConfig;
+    assert_eq!((size_of::<Config>(), align_of::<Config>()), (144, 8));
+    assert_eq!(offset_of!(Config, beta), 0);
+    assert_eq!(offset_of!(Config, safety), 24);
+    assert_eq!(offset_of!(Config, minimum_factor), 32);
+    assert_eq!(offset_of!(Config, maximum_factor), 40);
+    assert_eq!(offset_of!(Config, rejection_maximum), 48);
+    assert_eq!(offset_of!(Config, rejected_acceptance_maximum), 56);
+    assert_eq!(offset_of!(Config, minimum_step), 64);
+    assert_eq!(offset_of!(Config, maximum_step), 72);
+    assert_eq!(offset_of!(Config, force_accept), 80);
+    assert_eq!(offset_of!(Config, initial_error_history), 88);
+    assert_eq!(offset_of!(Config, error_history_floor), 104);
+    assert_eq!(offset_of!(Config, accept_equal), 112);
+    assert_eq!(offset_of!(Config, has_rejection_exponent), 113);
+    assert_eq!(offset_of!(Config, rejection_exponent), 120);
+    assert_eq!(offset_of!(Config, has_repeated_rejection_maximum), 128);
+    assert_eq!(offset_of!(Config, repeated_rejection_maximum), 136);
+
+    type State = ControllerState;
+    assert_eq!((size_of::<State>(), align_of::<State>()), (40, 8));
+    assert_eq!(offset_of!(State, accepted_errors), 0);
+    assert_eq!(offset_of!(State, rejected_since_acceptance), 16);
+    assert_eq!(offset_of!(State, next_step), 24);
+    assert_eq!(offset_of!(State, consecutive_rejections), 32);
+
+    assert_eq!(size_of::<AdaptiveController>(), 184);
+    assert_eq!(offset_of!(AdaptiveController, config), 0);
+    assert_eq!(offset_of!(AdaptiveController, state), 144);
+
+    assert_eq!(size_of::<Settings>(), 152);
+    assert_eq!(offset_of!(Settings, config), 0);
+    assert_eq!(offset_of!(Settings, refusal), 144);
+
+    assert_eq!(size_of::<Settled>(), 192);
+    assert_eq!(offset_of!(Settled, controller), 0);
+    assert_eq!(offset_of!(Settled, refusal), 184);
+
+    assert_eq!(size_of::<AssessAnswer>(), 208);
+    assert_eq!(offset_of!(AssessAnswer, controller), 0);
+    assert_eq!(offset_of!(AssessAnswer, number), 184);
+    assert_eq!(offset_of!(AssessAnswer, accepted), 188);
+    assert_eq!(offset_of!(AssessAnswer, forced), 189);
+    assert_eq!(offset_of!(AssessAnswer, next_step), 192);
+    assert_eq!(offset_of!(AssessAnswer, error), 200);
 }
 
 #[test]

@@ -1,6 +1,7 @@
 //! Answers of the original, recorded: NAME.script is what it was given, NAME.answers what it
 //! answered (tools/record). The port answers the same, line for line.
 use wiqhano::protocol::run;
+use wiqhano::script::compared;
 
 fn replayed(name: &str) {
     let read = |kind: &str| {
@@ -14,9 +15,10 @@ fn replayed(name: &str) {
     let lines: Vec<&str> = out.lines().collect();
     let mut differing = 0;
     for (pair, was) in lines.chunks(2).zip(recorded.lines()) {
-        if pair[1] != was {
+        let line = pair[0].strip_prefix("> ").expect("an echoed line");
+        if compared(line, pair[1]) != compared(line, was) {
             differing += 1;
-            println!("{}\n  port     {}\n  recorded {was}", pair[0], pair[1]);
+            println!("{line}\n  port     {}\n  recorded {was}", pair[1]);
         }
     }
     assert_eq!(lines.len() / 2, recorded.lines().count(), "answers");
@@ -40,6 +42,12 @@ fn telling() {
 #[test]
 fn linear() {
     replayed("linear");
+}
+
+/// The step size controller, the first step, the norm and the segment: edges.
+#[test]
+fn control() {
+    replayed("control");
 }
 
 /// Random lines.

@@ -33,6 +33,50 @@ pub enum SolveError {
     SingularLinearSystem,
 }
 
+/// The original's norm, cut out by build.rs, and the two settings that it reads.
+mod original_norm {
+    pub struct SolveOptions {
+        pub absolute_tolerance: f64,
+        pub relative_tolerance: f64,
+    }
+    include!(concat!(env!("OUT_DIR"), "/norm.rs"));
+
+    #[inline(never)]
+    pub fn norm(state: &[f64], candidate: &[f64], error: &[f64], options: &SolveOptions) -> f64 {
+        scaled_error_norm(state, candidate, error, options)
+    }
+}
+
+/// The original's segment, with the two names that its file takes from its parent, and the three
+/// that its owning form, which is not measured, takes from the crate.
+use differential_equations::{DenseSegmentData, InterpolationQuality, PortableDenseSegment};
+#[allow(dead_code)]
+mod solution {
+    pub use differential_equations::InterpolationError;
+    pub mod dense {
+        use super::InterpolationError;
+        pub trait DenseSegment {
+            fn interpolate(&self, time: f64, output: &mut [f64]) -> Result<(), InterpolationError>;
+        }
+        fn validate_dense_query(
+            contains_time: bool,
+            output_dimension: usize,
+            state_dimension: usize,
+        ) -> Result<(), InterpolationError> {
+            match (output_dimension == state_dimension, contains_time) {
+                (false, _) => Err(InterpolationError::DimensionMismatch),
+                (true, false) => Err(InterpolationError::OutsideTimeSpan),
+                (true, true) => Ok(()),
+            }
+        }
+        pub mod stiff {
+            include!("../../../../shared/docs/src/src/solution/dense/stiff.rs");
+        }
+    }
+}
+use solution::dense::DenseSegment;
+use solution::dense::stiff::BorrowedStiffSegment;
+
 const INPUTS: usize = 4096;
 const BATCHES: usize = 201;
 
@@ -142,6 +186,96 @@ fn linear(random: &mut Random) {
     }
 }
 
+#[inline(never)]
+fn original_assess(
+    controller: &mut original::AdaptiveController,
+    step: f64,
+    error: f64,
+) -> Result<original::StepDecision, original::ControllerError> {
+    controller.assess(step, error)
+}
+#[inline(never)]
+fn port_assess(
+    controller: &mut wiqhano::controller::AdaptiveController,
+    step: f64,
+    error: f64,
+) -> Result<wiqhano::controller::StepDecision, wiqhano::controller::ControllerError> {
+    controller.assess(step, error)
+}
+#[inline(never)]
+fn original_interpolate(
+    ends: [f64; 2],
+    states: [&[f64]; 3],
+    order: usize,
+    time: f64,
+    out: &mut [f64],
+) -> bool {
+    let [start, end] = ends;
+    let [y, z, c] = states;
+    let segment = BorrowedStiffSegment::new(start, end, y, z, c, order);
+    segment.is_ok_and(|s| s.interpolate(time, out).is_ok())
+}
+
+/// assess with its powers, the norm, and interpolation.
+fn beside_the_stepper(random: &mut Random) {
+    let errors: Vec<[f64; 2]> = (0..INPUTS)
+        .map(|_| [0.01 + random.unit(), random.unit() * 1.5])
+        .collect();
+    for (name, order) in [("assess P", 4), ("assess PI", 0)] {
+        let mut port = match order {
+            0 => wiqhano::controller::ControllerConfig::pi(0.14, 0.08),
+            n => wiqhano::controller::ControllerConfig::proportional(n).expect("an order"),
+        };
+        port.minimum_step = 0.0;
+        let mut port = wiqhano::controller::AdaptiveController::new(port, 1.0).expect("settings");
+        let like = match order {
+            0 => original::ControllerConfig::pi(0.14, 0.08),
+            n => original::ControllerConfig::proportional(n as usize).expect("an order"),
+        };
+        let mut like = original::AdaptiveController::new(like, 1.0).expect("settings");
+        beside(
+            name,
+            &errors,
+            |&[step, error]| port_assess(&mut port, step, error),
+            |&[step, error]| original_assess(&mut like, step, error),
+        );
+    }
+    let options = original_norm::SolveOptions {
+        absolute_tolerance: 1e-6,
+        relative_tolerance: 1e-3,
+    };
+    for n in [1, 2, 4, 8, 16, 32] {
+        let count = (INPUTS / n).max(64);
+        let mut vector = |k: usize| -> Vec<f64> { (0..k).map(|_| random.unit() - 0.5).collect() };
+        let states: Vec<[Vec<f64>; 3]> = (0..count)
+            .map(|_| [vector(n), vector(n), vector(3 * n)])
+            .collect();
+        beside(
+            &format!("norm {n}"),
+            &states,
+            |[y, z, e]| wiqhano::scaled_error_norm(y, z, &e[..n], 1e-6, 1e-3),
+            |[y, z, e]| original_norm::norm(y, z, &e[..n], &options),
+        );
+        let (mut a, mut b) = (vec![0.0; n], vec![0.0; n]);
+        beside(
+            &format!("interpolate {n}"),
+            &states,
+            |[y, z, c]| {
+                let segment = wiqhano::StiffSegment {
+                    start_time: 0.0,
+                    end_time: 1.0,
+                    start_state: y,
+                    end_state: z,
+                    corrections: c,
+                    order: 3,
+                };
+                segment.interpolate(0.25, &mut a)
+            },
+            |[y, z, c]| original_interpolate([0.0, 1.0], [y, z, c], 3, 0.25, &mut b),
+        );
+    }
+}
+
 fn main() {
     let mut random = Random::new(1);
     // A time, an end after it, a step, a scale, and a value: what a stepper meets.
@@ -204,4 +338,5 @@ fn main() {
         );
     }
     linear(&mut random);
+    beside_the_stepper(&mut random);
 }
