@@ -201,8 +201,18 @@ impl AdaptiveController {
             c.safety * error.powf(-c.rejection_exponent)
         } else {
             let [recent, older] = s.accepted_errors;
-            let product =
-                c.safety * error.powf(-c.beta[0]) * recent.powf(c.beta[1]) * older.powf(-c.beta[2]);
+            // a power of exponent 0 is 1 for every number
+            let power = |x: f64, exponent: f64| {
+                if exponent == 0.0 {
+                    1.0
+                } else {
+                    x.powf(exponent)
+                }
+            };
+            let product = c.safety
+                * power(error, -c.beta[0])
+                * power(recent, c.beta[1])
+                * power(older, -c.beta[2]);
             if product.is_nan() {
                 // an infinite power met one that is 0: by logarithms there is a number
                 (c.safety.ln() - c.beta[0] * error.ln() + c.beta[1] * recent.ln()
@@ -218,7 +228,7 @@ impl AdaptiveController {
     pub fn assess(&mut self, step: f64, error: f64) -> Result<StepDecision, ControllerError> {
         let product = self.product(step, error).unwrap_or(f64::NAN);
         let assessed = ffi::wiqhano_controller_assess(self.0, step, error, product);
-        self.0 = assessed.controller;
+        self.0.state = assessed.state;
         match assessed.number {
             0 => Ok(StepDecision {
                 accepted: assessed.accepted,

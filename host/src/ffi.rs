@@ -98,7 +98,7 @@ pub struct Settled {
 #[repr(C)]
 #[derive(Clone, Copy, Debug)]
 pub struct AssessAnswer {
-    pub controller: AdaptiveController,
+    pub state: ControllerState,
     pub number: u32,
     pub accepted: bool,
     pub forced: bool,

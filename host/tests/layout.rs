@@ -77,13 +77,13 @@ fn sizes_and_offsets_of_the_controller() {
     assert_eq!(offset_of!(Settled, controller), 0);
     assert_eq!(offset_of!(Settled, refusal), 184);
 
-    assert_eq!(size_of::<AssessAnswer>(), 208);
-    assert_eq!(offset_of!(AssessAnswer, controller), 0);
-    assert_eq!(offset_of!(AssessAnswer, number), 184);
-    assert_eq!(offset_of!(AssessAnswer, accepted), 188);
-    assert_eq!(offset_of!(AssessAnswer, forced), 189);
-    assert_eq!(offset_of!(AssessAnswer, next_step), 192);
-    assert_eq!(offset_of!(AssessAnswer, error), 200);
+    assert_eq!(size_of::<AssessAnswer>(), 64);
+    assert_eq!(offset_of!(AssessAnswer, state), 0);
+    assert_eq!(offset_of!(AssessAnswer, number), 40);
+    assert_eq!(offset_of!(AssessAnswer, accepted), 44);
+    assert_eq!(offset_of!(AssessAnswer, forced), 45);
+    assert_eq!(offset_of!(AssessAnswer, next_step), 48);
+    assert_eq!(offset_of!(AssessAnswer, error), 56);
 }
 
 #[test]

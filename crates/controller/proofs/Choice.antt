@@ -1,5 +1,6 @@
 -- Where assess is not refused no maximum or minimum of its is of two zeros: each has one side that is no zero, the caps and the floor by the settings,
--- the largest double by itself. And its number is that of the first test that holds. Assumes nothing.
+-- the largest double by itself. And its number is that of the first test that holds, and the
+-- settings stay. Assumes nothing.
 use Prim.Native.Nat.{ℕ}
 use mathlib.Core.Path.{_≡_, refl, sym}
 use mathlib.Core.Bool.{Bool, true, false, cond}
@@ -15,8 +16,9 @@ use Rattle.settings.proofs.Ranges.{ranges, positive-no-zero, fraction-no-zero}
 use Rattle.proposal.specs.declared.StepDecision.{StepDecision}
 use Rattle.proposal.specs.Rules.{decision}
 use Rattle.controller.specs.declared.AdaptiveController.{AdaptiveController}
+use Rattle.controller.specs.declared.Assessment.{Assessment}
 use Rattle.controller.specs.declared.Assessment.the-variants.{Decision, Refused, MinimumStep}
-use Rattle.controller.specs.Assess.{sound, assessTests, refused, assessment, number}
+use Rattle.controller.specs.Assess.{sound, assessTests, refused, assessment, number, controllerOf, after, assess}
 
 module _ (k : AdaptiveController) (s : sound k ≡ true) where
   valid : validSettings (k .config) ≡ true
@@ -62,3 +64,14 @@ number-of-first k h err p = go (eqb n 0) refl
     go : (b : Bool) → eqb n 0 ≡ b → number (cond b (Decision d) (refused err n)) ≡ n
     go true e = sym (eqb-true n 0 e)
     go false e = refused-number err n
+
+-- assess leaves the settings as they were
+settings-after : (k : AdaptiveController) (err : Float) (a : Assessment) → after k err a .config ≡ k .config
+unfolding after controllerOf
+settings-after k err (Decision d) = refl
+settings-after k err (Refused n) = refl
+settings-after k err (MinimumStep e) = refl
+
+pub settings-kept : (k : AdaptiveController) (h err p : Float) → assess k h err p .controller .config ≡ k .config
+unfolding assess
+settings-kept k h err p = settings-after k err (assessment k h err p)

@@ -17,7 +17,7 @@ use Rattle.norm.specs.declared.Norm.{Norm}
 use Rattle.norm.specs.declared.Norm.the-variants as norm
 use Rattle.initial_step.specs.declared.FirstStep.{FirstStep}
 use Rattle.initial_step.specs.declared.FirstStep.the-variants as first
-use Rattle.controller.specs.declared.AdaptiveController.{AdaptiveController}
+use Rattle.settings.specs.declared.ControllerState.{ControllerState}
 use Rattle.controller.specs.declared.NextStep.{NextStep}
 use Rattle.controller.specs.declared.NextStep.the-variants as next
 use Rattle.controller.specs.declared.Assessment.{Assessment}
@@ -59,18 +59,18 @@ unfoldable pub ofNextStep : NextStep → Answer
 ofNextStep (next.Step x) = record { number = 0; value = x }
 ofNextStep (next.Refused k) = record { number = k; value = 𝟎 }
 
--- the controller after the call, with what was decided, or the number of the refusal, and the error with 16
-unfoldable pub ofAssessment : AdaptiveController → Assessment → AssessAnswer
-ofAssessment k (assessment.Decision d) =
-    record { controller = k; number = 0; accepted = d .accepted; forced = d .forced; «next_step» = d .«next_step»; error = 𝟎 }
-ofAssessment k (assessment.Refused n) =
-    record { controller = k; number = n; accepted = false; forced = false; «next_step» = 𝟎; error = 𝟎 }
-ofAssessment k (assessment.MinimumStep err) =
-    record { controller = k; number = minimumStep; accepted = false; forced = false; «next_step» = 𝟎; error = err }
+-- the controller's state after the call (its settings stay), with what was decided, or the number of the refusal, and the error with 16
+unfoldable pub ofAssessment : ControllerState → Assessment → AssessAnswer
+ofAssessment s (assessment.Decision d) =
+    record { state = s; number = 0; accepted = d .accepted; forced = d .forced; «next_step» = d .«next_step»; error = 𝟎 }
+ofAssessment s (assessment.Refused n) =
+    record { state = s; number = n; accepted = false; forced = false; «next_step» = 𝟎; error = 𝟎 }
+ofAssessment s (assessment.MinimumStep err) =
+    record { state = s; number = minimumStep; accepted = false; forced = false; «next_step» = 𝟎; error = err }
 
 unfoldable pub ofAssessed : Assessed → AssessAnswer
 unfolding ofAssessment
-ofAssessed a = ofAssessment (a .controller) (a .answer)
+ofAssessed a = ofAssessment (a .controller .state) (a .answer)
 
 -- the policy that the host hands over as its numbers
 abbrev pub policyOf : Float → Float → Float → Bool → Float → Float → TimeDifferencePolicy

@@ -63,11 +63,11 @@ pub struct SameAnswer {
     pub same: bool,
 }
 
-// number: the refusal, 0 for none. Without a decision accepted and forced are false and next_step is
-// 0; error is 0 but for 16.
+// The controller's state after the call; its settings stay. number: the refusal, 0 for none. Without
+// a decision accepted and forced are false and next_step is 0; error is 0 but for 16.
 #[repr(C)]
 pub struct AssessAnswer {
-    pub controller: AdaptiveController,
+    pub state: ControllerState,
     pub number: u32,
     pub accepted: bool,
     pub forced: bool,
@@ -489,10 +489,11 @@ pub extern "C" fn wiqhano_controller_assess(
 {
     let assessed = controller.assess(step, error, product);
     let after = assessed.controller;
+    let state = after.state;
     let answer = assessed.answer;
     match answer {
         Assessment::Decision(decision) => AssessAnswer {
-            controller: after,
+            state,
             number: 0,
             accepted: decision.accepted,
             forced: decision.forced,
@@ -500,7 +501,7 @@ pub extern "C" fn wiqhano_controller_assess(
             error: 0.0,
         },
         Assessment::Refused(number) => AssessAnswer {
-            controller: after,
+            state,
             number,
             accepted: false,
             forced: false,
@@ -508,7 +509,7 @@ pub extern "C" fn wiqhano_controller_assess(
             error: 0.0,
         },
         Assessment::MinimumStep(error) => AssessAnswer {
-            controller: after,
+            state,
             number: stepping::MINIMUM_STEP,
             accepted: false,
             forced: false,

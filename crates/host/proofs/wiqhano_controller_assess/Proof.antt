@@ -19,15 +19,15 @@ enum-known-answer-3 c = search needs
 
 returns : tie.Need-returns
 unfolding ofAssessment ofAssessed
-returns c = ap (ofAssessment (c .before .before .before .before .assess .result .controller)) (sym (c .before .answer .given .1)) ∙ ap ofAssessed (c .before .before .before .before .assess .ensures)
+returns c = ap (ofAssessment (c .before .before .before .before .before .assess .result .controller .state)) (sym (c .before .answer .given .1)) ∙ ap ofAssessed (c .before .before .before .before .before .assess .ensures)
 
 returns-2 : tie.Need-returns-2
 unfolding ofAssessment ofAssessed
-returns-2 c = ap (ofAssessment (c .before .before .before .before .assess .result .controller)) (sym (c .before .answer2 .given .1)) ∙ ap ofAssessed (c .before .before .before .before .assess .ensures)
+returns-2 c = ap (ofAssessment (c .before .before .before .before .before .assess .result .controller .state)) (sym (c .before .answer2 .given .1)) ∙ ap ofAssessed (c .before .before .before .before .before .assess .ensures)
 
 returns-3 : tie.Need-returns-3
 unfolding ofAssessment ofAssessed
-returns-3 c = ap (ofAssessment (c .before .before .before .before .assess .result .controller)) (sym (c .before .answer3 .given .1)) ∙ ap ofAssessed (c .before .before .before .before .assess .ensures)
+returns-3 c = ap (ofAssessment (c .before .before .before .before .before .assess .result .controller .state)) (sym (c .before .answer3 .given .1)) ∙ ap ofAssessed (c .before .before .before .before .before .assess .ensures)
 
 pub wiqhano-controller-assess-spec : {M : Type 1} → statement M
 wiqhano-controller-assess-spec =
