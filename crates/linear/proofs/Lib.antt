@@ -8,4 +8,5 @@ pub mod Progress
 pub mod Answers
 pub mod Substitutions
 pub mod Triangular
+pub mod Regular
 pub mod Starred
