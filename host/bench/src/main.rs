@@ -203,6 +203,14 @@ fn port_assess(
     controller.assess(step, error)
 }
 #[inline(never)]
+fn original_initial_step(
+    [state, derivative, scales]: [&[f64]; 3],
+    direction: f64,
+    maximum: f64,
+) -> Result<f64, original::StepFailure> {
+    original::initial_step(state, derivative, scales, direction, maximum)
+}
+#[inline(never)]
 fn original_interpolate(
     ends: [f64; 2],
     states: [&[f64]; 3],
@@ -216,7 +224,7 @@ fn original_interpolate(
     segment.is_ok_and(|s| s.interpolate(time, out).is_ok())
 }
 
-/// assess with its powers, the norm, and interpolation.
+/// assess with its powers, the norm, the first step, and interpolation.
 fn beside_the_stepper(random: &mut Random) {
     let errors: Vec<[f64; 2]> = (0..INPUTS)
         .map(|_| [0.01 + random.unit(), random.unit() * 1.5])
@@ -255,6 +263,13 @@ fn beside_the_stepper(random: &mut Random) {
             &states,
             |[y, z, e]| wiqhano::scaled_error_norm(y, z, &e[..n], 1e-6, 1e-3),
             |[y, z, e]| original_norm::norm(y, z, &e[..n], &options),
+        );
+        let scales = vec![1e-3; n];
+        beside(
+            &format!("initial_step {n}"),
+            &states,
+            |[y, z, _]| wiqhano::initial_step(y, z, &scales, 1.0, 10.0),
+            |[y, z, _]| original_initial_step([y, z, &scales], 1.0, 10.0),
         );
         let (mut a, mut b) = (vec![0.0; n], vec![0.0; n]);
         beside(
