@@ -98,7 +98,17 @@ pub const COMMANDS: &[Command] = &[
     Command {
         name: "ctl assess",
         line: ctl_assess,
-        classes: &["ok", "accepted", "forced", "rejected", "err 7", "err 16"],
+        classes: &[
+            "ok",
+            "accepted",
+            "forced",
+            "rejected",
+            "err 7",
+            "err 16",
+            "product NaN",
+            "product infinite",
+            "product zero",
+        ],
     },
     Command {
         name: "ctl restore",
@@ -137,6 +147,13 @@ pub fn compared(line: &str, answer: &str) -> String {
 /// The kind of an answer: the refusal's number, how many values, or what the one value is.
 pub fn class(line: &str, answer: &str) -> String {
     let words: Vec<&str> = answer.split(' ').collect();
+    let product = words.iter().find_map(|word| word.strip_prefix("product="));
+    match product {
+        Some("7ff8000000000000") => return "product NaN".into(),
+        Some("7ff0000000000000") => return "product infinite".into(),
+        Some("0000000000000000") => return "product zero".into(),
+        _ => {}
+    }
     let kind = match words[..] {
         ["err", number, ..] => return format!("err {number}"),
         ["ok", "accepted=1", "forced=1", ..] => return "forced".into(),
@@ -608,8 +625,8 @@ fn assigned(r: &mut Random, key: &str, valid: &[f64]) -> String {
 
 fn settings(r: &mut Random) -> String {
     let mut text = String::new();
-    let exponents = [0.5, 0.25, 1.0 / 3.0, 0.7, 2.0, 400.0];
-    let others = [0.0, -0.2, 0.4, -0.08, 300.0, -300.0];
+    let exponents = [0.5, 0.25, 1.0 / 3.0, 0.7, 2.0, 400.0, 1e308];
+    let others = [0.0, -0.2, 0.4, -0.08, 300.0, -300.0, 1e308, -1e308];
     match r.below(3) {
         0 => text += &format!(" order={}", 1 + r.below(8)),
         _ => {
@@ -671,9 +688,9 @@ fn error(r: &mut Random) -> f64 {
 }
 
 fn ctl_assess(r: &mut Random) -> String {
-    match r.below(25) {
+    match r.below(60) {
         0 => ctl_new(r),
-        1 => "ctl state".into(),
+        1 | 2 => "ctl state".into(),
         _ => {
             let step = step(r);
             format!("ctl assess {} {}", double(step), double(error(r)))
