@@ -625,10 +625,16 @@ fn assigned(r: &mut Random, key: &str, valid: &[f64]) -> String {
 
 fn settings(r: &mut Random) -> String {
     let mut text = String::new();
-    let exponents = [0.5, 0.25, 1.0 / 3.0, 0.7, 2.0, 400.0, 1e308];
-    let others = [0.0, -0.2, 0.4, -0.08, 300.0, -300.0, 1e308, -1e308];
-    match r.below(3) {
-        0 => text += &format!(" order={}", 1 + r.below(8)),
+    let exponents = [0.5, 0.25, 1.0 / 3.0, 0.7, 2.0, 400.0];
+    let others = [0.0, -0.2, 0.4, -0.08, 300.0, -300.0];
+    match r.below(8) {
+        0 | 1 => text += &format!(" order={}", 1 + r.below(8)),
+        2 | 3 => {
+            // infinite powers and zero ones, whose product may be NaN by logarithms too
+            let huge = [1e308, -1e308];
+            let beta = [1e308, r.pick(&huge), r.pick(&[0.0, 1e308, -1e308])];
+            text += &format!(" beta={}", vector(&beta));
+        }
         _ => {
             let mut beta = [r.pick(&exponents), r.pick(&others), r.pick(&others)];
             if r.chance(3) {
@@ -647,7 +653,7 @@ fn settings(r: &mut Random) -> String {
         ("maxstep", &[10.0, 1.0, 2.0, f64::MAX]),
         ("floor", &[1e-4, 1.0, f64::MIN_POSITIVE, 5e-324]),
     ] {
-        if r.chance(40) {
+        if r.chance(50) {
             text += &assigned(r, key, valid);
         }
     }
@@ -661,7 +667,7 @@ fn settings(r: &mut Random) -> String {
     if r.chance(30) {
         text += &assigned(r, "repmax", &[0.1, 0.25, 0.5, 1.0]);
     }
-    if r.chance(40) {
+    if r.chance(60) {
         text += " policy=force";
     }
     if r.chance(50) {
@@ -688,9 +694,9 @@ fn error(r: &mut Random) -> f64 {
 }
 
 fn ctl_assess(r: &mut Random) -> String {
-    match r.below(60) {
+    match r.below(30) {
         0 => ctl_new(r),
-        1 | 2 => "ctl state".into(),
+        1 => "ctl state".into(),
         _ => {
             let step = step(r);
             format!("ctl assess {} {}", double(step), double(error(r)))
