@@ -1,5 +1,5 @@
 -- A part of a long list: read, and written. Definitions only.
-use Prim.Native.Nat.{ℕ, zero, suc, _+_}
+use Prim.Native.Nat.{ℕ, zero, suc, _+_, _*_}
 use mathlib.Core.List.{List}
 use lib.ListN.{take, drop, set}
 
@@ -12,3 +12,8 @@ module _ {A : Type 0} where
   unfoldable pub puts : List A → ℕ → (ℕ → A) → ℕ → List A
   puts w at f zero = w
   puts w at f (suc k) = set (puts w at f k) (at + k) (f k)
+
+  -- w with f 0, .., f (r - 1) in column k of the matrix of n columns that starts at `at`
+  unfoldable pub putsColumn : List A → ℕ → ℕ → ℕ → (ℕ → A) → ℕ → List A
+  putsColumn w at n k f zero = w
+  putsColumn w at n k f (suc r) = set (putsColumn w at n k f r) (at + (r * n + k)) (f r)

@@ -1,0 +1,1 @@
+// The Jacobian and the time partial by differences, on the lent work.

@@ -1,0 +1,6 @@
+pub mod Requests
+pub mod Answers
+pub mod Tests
+pub mod Calls
+pub mod Readers
+pub mod Stepper

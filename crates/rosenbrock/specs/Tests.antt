@@ -1,0 +1,120 @@
+-- The tests of the stepper's calls (the scope paper, Refused because of the input, Refused because of the state). Definitions only.
+use Prim.Native.Nat.{ℕ, _*_}
+use mathlib.Core.Bool.{Bool, true, false, not, cond, _&&_}
+use mathlib.Core.List.{List, [], _∷_, _++_}
+use lib.Dec.{eqb, leb, ltb}
+use lib.ListN.{length, getD}
+use lib.Ieee.{Float}
+use Rattle.vector.specs.Lists.{every, allFinite}
+use Rattle.stepping.specs.Refusals.{dimension, nonFinite, unsupportedTableau, tableauFile, pivotRange, pendingCandidate, noCandidate, noRequest, attemptOpen, Test, _when_}
+use Rattle.stepping.specs.Time.{timeTests}
+use Rattle.tableau.specs.Tableau.{stagesOf}
+use Rattle.tableau.specs.File.{tableauOf, accepts}
+use Rattle.stages.specs.Layout.{neededWork}
+use Rattle.attempts.specs.declared.Ask.{Ask}
+use Rattle.attempts.specs.declared.Ask.the-variants.{Derivative, Jacobian, TimePartial, FirstProbe, SecondProbe, Column, Stage}
+use Rattle.attempts.specs.Attempt.{wanted}
+use Rattle.rosenbrock.specs.declared.Fixed.{Fixed}
+use Rattle.rosenbrock.specs.declared.Progress.{Progress}
+use Rattle.rosenbrock.specs.Requests.{isPending, isOpen, askOf, requestFits}
+use Rattle.rosenbrock.specs.Answers.{Lent}
+
+-- n, s and the lengths that are lent; the work is the needed work, so it is shorter only where too little was lent
+unfoldable pub shapeFits : ℕ → ℕ → ℕ → ℕ → ℕ → Bool
+shapeFits n s state work pivots =
+    leb 1 n && (leb n 32 && (leb 1 s && (leb s 8 && (eqb state n && (eqb work (neededWork n s) && eqb pivots n)))))
+
+-- 1: the record and what is lent with it fit each other
+abbrev pub fitTests : Fixed → Progress → Lent → List Test
+fitTests fx x m =
+    (dimension when not (shapeFits (fx .n) (fx .s) (length (m .state)) (length (m .work)) (length (m .pivots))))
+    ∷ (dimension when not (requestFits (fx .n) (fx .s) (x .request) (x .stage)))
+    ∷ []
+
+-- 12, 3, and 1 for another number of stages
+abbrev pub fileTests : Fixed → List ℕ → List Test
+fileTests fx file =
+    (tableauFile when not (accepts file))
+    ∷ (unsupportedTableau when eqb (tableauOf file .counts .kind) 1)
+    ∷ (dimension when not (eqb (stagesOf (tableauOf file)) (fx .s)))
+    ∷ []
+
+-- 18
+abbrev pub openTest : Progress → Test
+openTest x = attemptOpen when isOpen (x .request)
+
+-- 14
+abbrev pub pendingTest : Progress → Test
+pendingTest x = pendingCandidate when isPending (x .request)
+
+-- 15
+abbrev pub candidateTest : Progress → Test
+candidateTest x = noCandidate when not (isPending (x .request))
+
+-- 17
+abbrev pub requestTest : Progress → Test
+requestTest x = noRequest when not (isOpen (x .request))
+
+-- 1: another length than n
+abbrev pub lengthTest : Fixed → List Float → Test
+lengthTest fx values = dimension when not (eqb (length values) (fx .n))
+
+-- 2
+abbrev pub finiteTest : List Float → Test
+finiteTest values = nonFinite when not (allFinite values)
+
+-- a pivot that is no row, where a stage would be solved
+unfoldable pub pivotsUnfit : ℕ → List ℕ → Ask → Bool
+pivotsUnfit n pivots Derivative = false
+pivotsUnfit n pivots Jacobian = false
+pivotsUnfit n pivots TimePartial = false
+pivotsUnfit n pivots FirstProbe = false
+pivotsUnfit n pivots SecondProbe = false
+pivotsUnfit n pivots (Column k) = false
+pivotsUnfit n pivots (Stage i) = not (every n (λ k. ltb (getD pivots k 0) n))
+
+-- 1, 13: of what is supplied
+abbrev pub valueTests : Fixed → Progress → Lent → List Float → List Test
+valueTests fx x m values =
+    let a = askOf (x .request) (x .stage) in
+    (dimension when not (eqb (length values) (wanted (fx .n) a))) ∷ (pivotRange when pivotsUnfit (fx .n) (m .pivots) a) ∷ []
+
+-- ---- each call's, in order
+
+-- making: 12, 1, 2, 3, for a state of n components and the s stages of the file
+abbrev pub makingTests : List ℕ → Float → Lent → List Test
+makingTests file time m =
+    (tableauFile when not (accepts file))
+    ∷ (dimension when not (shapeFits (length (m .state)) (stagesOf (tableauOf file)) (length (m .state)) (length (m .work)) (length (m .pivots))))
+    ∷ finiteTest (m .state)
+    ∷ finiteTest (time ∷ [])
+    ∷ (unsupportedTableau when eqb (tableauOf file .counts .kind) 1)
+    ∷ []
+
+-- attempt and attempt_to begin with 1, 12, 3, 1, 18
+abbrev pub attemptTests : Fixed → List ℕ → Progress → Lent → List Test
+attemptTests fx file x m = fitTests fx x m ++ (fileTests fx file ++ (openTest x ∷ []))
+
+-- and go on with 14, 2, 5 for the step
+abbrev pub stepTests : Float → Progress → List Test
+stepTests step x = pendingTest x ∷ timeTests (x .time) step
+
+-- supply: 1, 12, 3, 1, 17, 1, 13
+abbrev pub supplyTests : Fixed → List ℕ → List Float → Progress → Lent → List Test
+supplyTests fx file values x m = fitTests fx x m ++ (fileTests fx file ++ (requestTest x ∷ valueTests fx x m values))
+
+-- fail: 1, 17
+abbrev pub failTests : Fixed → Progress → Lent → List Test
+failTests fx x m = fitTests fx x m ++ (requestTest x ∷ [])
+
+-- accept and reject: 1, 18, 15
+abbrev pub decisionTests : Fixed → Progress → Lent → List Test
+decisionTests fx x m = fitTests fx x m ++ (openTest x ∷ candidateTest x ∷ [])
+
+-- inject_derivative: 1, 18, 14, 1, 2
+abbrev pub injectTests : Fixed → List Float → Progress → Lent → List Test
+injectTests fx derivative x m = fitTests fx x m ++ (openTest x ∷ pendingTest x ∷ lengthTest fx derivative ∷ finiteTest derivative ∷ [])
+
+-- reset: 1, 18, 1, 2
+abbrev pub resetTests : Fixed → Float → List Float → Progress → Lent → List Test
+resetTests fx time state x m = fitTests fx x m ++ (openTest x ∷ lengthTest fx state ∷ finiteTest state ∷ finiteTest (time ∷ []) ∷ [])

@@ -1,0 +1,3 @@
+pub mod Method
+pub mod Layout
+pub mod Memory

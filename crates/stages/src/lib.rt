@@ -1,0 +1,1 @@
+// The stages of a Rosenbrock method on the lent work.
