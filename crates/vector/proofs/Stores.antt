@@ -4,14 +4,15 @@ use native.Mathlib.Omega.{arith}
 use native.Mathlib.Numerals.{add-one}
 use native.Mathlib.Nat.{add-zero}
 use mathlib.Core.Path.{_≡_, refl, sym, ap, _∙_}
+use mathlib.Core.Bool.{cond}
 use mathlib.Core.List.{List, [], _∷_, _++_}
 use mathlib.Core.Logic.{_⊎_, inl, inr, ⊎-elim}
 use lib.ListN.{length, take, drop, getD, set, length-set, length-append, length-drop, List·getD-append}
 use lib.Seq.{sets, getD-set-same, getD-set-other, getD-take, getD-drop, getD-append-add, length-take-le, ext-getD}
 use lib.Dec.{eqb, ltb}
-use borrow.Author.Tests.{eqb-true, eqb-false, ltb-true, ltb-false}
+use borrow.Author.Tests.{eq-eqb, ne-eqb, eqb-true, eqb-false, ltb-true, ltb-false}
 use borrow.Rule.Slice.PartMut.{putMid, postOf}
-use Rattle.float.proofs.Cases.{by}
+use Rattle.float.proofs.Cases.{yes, no, by}
 use Rattle.vector.specs.Parts.{puts}
 
 module _ {A : Type 0} where
@@ -55,6 +56,26 @@ module _ {A : Type 0} where
   unfolding puts
   puts-same w at f g zero h = refl
   puts-same w at f g (suc n) h = rw (puts-same w at f g n (λ j k. h j (omega arith)), h n (omega arith))
+
+  -- one of the stored values stored anew
+  pub puts-set : (d : A) (w : List A) (at : ℕ) (f : ℕ → A) (n k : ℕ) (v : A) → at + n ≤ length w → k < n
+      → set (puts w at f n) (at + k) v ≡ puts w at (λ j. cond (eqb j k) v (f j)) n
+  puts-set d w at f n k v h l =
+      let p = puts w at f n in
+      let g : ℕ → A = λ j. cond (eqb j k) v (f j) in
+      ext-getD d (set p (at + k) v) (puts w at g n) (length-set p (at + k) v ∙ length-puts w at f n ∙ sym (length-puts w at g n))
+      (λ j q. by (eqb j (at + k))
+      (λ t. rw (eqb-true j (at + k) t) (getD-set-same p (at + k) v d (omega (arith, length-puts w at f n)) ∙ sym (puts-held d w at g n k h l ∙ sym (yes (f k) (eq-eqb k k refl) refl))))
+      (λ t. getD-set-other p (at + k) j v d (eqb-false j (at + k) t)
+      ∙ by (ltb j at)
+      (λ b. puts-left d w at f n j (inl (ltb-true j at b)) ∙ sym (puts-left d w at g n j (inl (ltb-true j at b))))
+      (λ b. by (ltb j (at + n))
+      (λ b′. let i = j - at in
+      let e : j ≡ at + i = omega (arith, ltb-false j at b) in
+      let r : i < n = omega (arith, ltb-true j (at + n) b′, ltb-false j at b) in
+      let other : i ≡ k → ⊥ = λ z. eqb-false j (at + k) t (omega arith) in
+      rw e (puts-held d w at f n i h r ∙ sym (puts-held d w at g n i h r ∙ sym (no v (ne-eqb i k other) refl))))
+      (λ b′. puts-left d w at f n j (inr (ltb-false j (at + n) b′)) ∙ sym (puts-left d w at g n j (inr (ltb-false j (at + n) b′)))))))
 
   -- ---- a part that was lent, from a on and k long, and has come back as ys: `putMid a k xs ys`
   pub mid-before : (d : A) (a k : ℕ) (xs ys : List A) (j : ℕ) → a ≤ length xs → j < a → getD (putMid a k xs ys) j d ≡ getD xs j d
