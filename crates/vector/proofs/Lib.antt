@@ -1,6 +1,7 @@
 -- Laws that dependents may cite.
 pub mod Lists
 pub mod Stores
+pub mod Fronts
 pub mod Parts
 pub mod Matrices
 mod Four
