@@ -1,0 +1,4 @@
+-- Laws that dependents may cite.
+pub mod Requests
+pub mod Guards
+pub mod Lengths
