@@ -2,3 +2,5 @@
 pub mod Requests
 pub mod Guards
 pub mod Lengths
+pub mod Memory
+pub mod Readers
