@@ -4,3 +4,4 @@ pub mod Guards
 pub mod Lengths
 pub mod Memory
 pub mod Readers
+pub mod Fitting

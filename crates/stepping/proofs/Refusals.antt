@@ -5,7 +5,7 @@ use mathlib.Core.Path.{_≡_, refl, sym, ap, _∙_}
 use mathlib.Core.Bool.{Bool, true, false, not, cond}
 use mathlib.Core.List.{List, [], _∷_, _++_}
 use lib.Dec.{eqb}
-use borrow.Author.Tests.{eq-eqb, ne-eqb, eqb-true}
+use borrow.Author.Tests.{eq-eqb, ne-eqb, eqb-true, not-false}
 use Rattle.float.proofs.Cases.{yes, no}
 use Rattle.stepping.specs.Refusals.{Test, _when_, firstOf, unlessRefused}
 
@@ -27,6 +27,13 @@ pub passed : (k : ℕ) (b : Bool) (rest : List Test) → firstOf ((suc k when b)
 unfolding firstOf
 passed k true rest h = absurd (omega arith)
 passed k false rest h = (refl, h)
+
+-- the same for a test of what has to hold
+pub held : (k : ℕ) (b : Bool) (rest : List Test) → firstOf ((suc k when not b) ∷ rest) ≡ 0 → (b ≡ true) × (firstOf rest ≡ 0)
+held k b rest h = let p = passed k (not b) rest h in (not-false b (p .0), p .1)
+
+pub holds-later : {b : Bool} (k : ℕ) (rest : List Test) {j : ℕ} → b ≡ true → firstOf rest ≡ j → firstOf ((k when not b) ∷ rest) ≡ j
+holds-later k rest h e = later k rest (ap not h) e
 
 -- tests one after the other: the first ones refuse, or two of them pass and the others decide
 pub first-refused : (xs ys : List Test) {k : ℕ} → firstOf xs ≡ k → (k ≡ 0 → ⊥) → firstOf (xs ++ ys) ≡ k

@@ -1,0 +1,2 @@
+-- Demand3 has the theorems.
+mod Alike
