@@ -1,2 +1,3 @@
 -- Demand3 has the theorems.
 mod Alike
+mod Fresh
