@@ -6,24 +6,22 @@ use mathlib.Core.List.{List, [], _∷_}
 use lib.ListN.{length, take, replicate, length-replicate}
 use lib.Dec.{eqb}
 use lib.Ieee.{Float}
-use borrow.Author.Tests.{eqb-true}
 use Rattle.float.specs.Operators.{𝟎}
-use Rattle.vector.specs.Lists.{allFinite}
 use Rattle.vector.proofs.Fronts.{length-front}
 use Rattle.stepping.specs.Refusals.{firstOf}
-use Rattle.stepping.proofs.Refusals.{none, later, passed, held, holds-later, either-way, is-answered}
+use Rattle.stepping.proofs.Refusals.{none, later, holds-later, either-way, is-answered}
 use Rattle.time_difference.specs.declared.TimeDifferencePolicy.{TimeDifferencePolicy}
 use Rattle.tableau.specs.Tableau.{stagesOf}
 use Rattle.tableau.specs.File.{tableauOf, accepts}
 use Rattle.rosenbrock.specs.declared.Fixed.{Fixed}
-use Rattle.rosenbrock.specs.Requests.{isOpen}
 use Rattle.rosenbrock.specs.Answers.{Lent, lending, done}
 use Rattle.rosenbrock.specs.Tests.{shapeFits, makingTests}
 use Rattle.rosenbrock.specs.Calls.{Out, fresh, cleared, restarted, resetOf}
 use Rattle.rosenbrock.specs.Stepper.{Call, reset, called, System, needed, trimmed, untrimmed, result, stepped, Made, not-made, made, fixedBy, madeOf, make}
 use Rattle.rosenbrock.proofs.Guards.{guarded-passed, done-passed}
 use Rattle.rosenbrock.proofs.Memory.{trim-untrim, untrim-length, memory-after}
-use Rattle.rosenbrock.proofs.Fitting.{LentShape, shape-of, shape-fits, fits-passed}
+use Rattle.rosenbrock.proofs.Fitting.{shape-fits}
+use Rattle.rosenbrock.proofs.Passed.{ResetPassed, making-passed, reset-passed}
 use Rattle.lists.specs.Run.{after}
 use Rattle.lists.specs.Claim.{Same, Indistinguishable}
 use Rattle.lists.proofs.Alike.{accepted-same, run-same}
@@ -79,21 +77,15 @@ pub record Born (file : List ℕ) (policy : TimeDifferencePolicy) (y : System) :
   pub not-hybrid : eqb (tableauOf file .counts .kind) 1 ≡ false
 
 pub born : (file : List ℕ) (policy : TimeDifferencePolicy) (time : Float) (m : Lent) (y : System) → make file policy time m ≡ made y → Born file policy y
-unfolding madeOf fixedBy trimmed
+unfolding madeOf fixedBy
 born file policy time m y e =
     let is : madeOf file policy time m ≡ y = made-is file policy time m y e in
-    let n = length (m .state) in
-    let work = trimmed (needed (fixedBy file policy m)) m .work in
-    let t₁ = held 11 (accepts file) _ (made-passed file policy time m y e) in
-    let t₂ = held 0 (shapeFits n (stagesOf (tableauOf file)) n (length work) (length (m .pivots))) _ (t₁ .1) in
-    let t₃ = held 1 (allFinite (m .state)) _ (t₂ .1) in
-    let t₄ = held 1 (allFinite (time ∷ [])) _ (t₃ .1) in
-    let t₅ = passed 2 (eqb (tableauOf file .counts .kind) 1) [] (t₄ .1) in
+    let t = making-passed file time (trimmed (needed (fixedBy file policy m)) m) (made-passed file policy time m y e) in
     record {
       stages = ap (λ (z : System). z .stepper .fixed .s) (sym is);
       policy-is = ap (λ (z : System). z .stepper .fixed .policy) (sym is);
-      file-accepted = t₁ .0;
-      not-hybrid = t₅ .0;
+      file-accepted = t .file-accepted;
+      not-hybrid = t .not-hybrid;
     }
 
 pub born-after : (file : List ℕ) (policy : TimeDifferencePolicy) (y : System) (cs : List Call) → Born file policy y → Born file policy (after y cs)
@@ -107,21 +99,9 @@ born-after file policy y (c ∷ cs) b =
 
 module _ (y : System) (time : Float) (state : List Float) (e : stepped (reset time state) y .answer ≡ done) where
   -- what its tests tell
-  record Passed : Type 0 where
-    shape : LentShape (y .stepper .fixed) (trimmed (needed (y .stepper .fixed)) (y .lent))
-    size : length state ≡ y .stepper .fixed .n
-    finite : allFinite state ≡ true
-    finite-time : allFinite (time ∷ []) ≡ true
-
-  reset-passed : Passed
+  tests-tell : ResetPassed (y .stepper .fixed) (trimmed (needed (y .stepper .fixed)) (y .lent)) time state
   unfolding stepped result called resetOf
-  reset-passed =
-      let t = fits-passed (y .stepper .fixed) (y .stepper .progress) (trimmed (needed (y .stepper .fixed)) (y .lent)) _ (done-passed _ _ _ _ e) in
-      let t₁ = passed 17 (isOpen (y .stepper .progress .request)) _ (t .1) in
-      let t₂ = held 0 (eqb (length state) (y .stepper .fixed .n)) _ (t₁ .1) in
-      let t₃ = held 1 (allFinite state) _ (t₂ .1) in
-      let t₄ = held 1 (allFinite (time ∷ [])) [] (t₃ .1) in
-      record { shape = t .0 .shape; size = eqb-true (length state) _ (t₂ .0); finite = t₃ .0; finite-time = t₄ .0 }
+  tests-tell = reset-passed (y .stepper .fixed) time state (y .stepper .progress) (trimmed (needed (y .stepper .fixed)) (y .lent)) (done-passed _ _ _ _ e)
 
   -- what it leaves
   reset-result : result (reset time state) y ≡ restarted time state (trimmed (needed (y .stepper .fixed)) (y .lent))
@@ -138,7 +118,7 @@ module _ (y : System) (time : Float) (state : List Float) (e : stepped (reset ti
 
     fixed-same : y .stepper .fixed ≡ fixed
     unfolding fixedBy
-    fixed-same = λ i. record { n = sym (reset-passed .size) i; s = b .stages i; policy = b .policy-is i }
+    fixed-same = λ i. record { n = sym (tests-tell .size) i; s = b .stages i; policy = b .policy-is i }
 
     front-same : length (take (needed (y .stepper .fixed)) (y .lent .work)) ≡ length (take (needed fixed) work)
     front-same =
@@ -161,7 +141,7 @@ module _ (y : System) (time : Float) (state : List Float) (e : stepped (reset ti
     new-shape : shapeFits (length state) (stagesOf (tableauOf file)) (length state) (length (take (needed fixed) work)) (length pivots) ≡ true
     unfolding trimmed
     new-shape =
-        let t = reset-passed in
+        let t = tests-tell in
         let old : shapeFits (y .stepper .fixed .n) (y .stepper .fixed .s) (length (y .lent .state)) (length (take (needed (y .stepper .fixed)) (y .lent .work))) (length (y .lent .pivots)) ≡ true =
             shape-fits _ _ _ _ _ (t .shape)
         in
@@ -170,7 +150,7 @@ module _ (y : System) (time : Float) (state : List Float) (e : stepped (reset ti
     new-passes : firstOf (makingTests file time (trimmed (needed fixed) lent)) ≡ 0
     unfolding trimmed
     new-passes =
-        let t = reset-passed in
+        let t = tests-tell in
         holds-later 12 _ (b .file-accepted)
         (holds-later 1 _ new-shape (holds-later 2 _ (t .finite) (holds-later 2 _ (t .finite-time) (later 3 [] (b .not-hybrid) none))))
 

@@ -5,3 +5,4 @@ pub mod Lengths
 pub mod Memory
 pub mod Readers
 pub mod Fitting
+pub mod Passed
