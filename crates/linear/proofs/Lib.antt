@@ -10,3 +10,4 @@ pub mod Substitutions
 pub mod Triangular
 pub mod Regular
 pub mod Starred
+pub mod Lengths

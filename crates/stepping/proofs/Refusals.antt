@@ -5,7 +5,7 @@ use mathlib.Core.Path.{_≡_, refl, sym, ap, _∙_}
 use mathlib.Core.Bool.{Bool, true, false, not, cond}
 use mathlib.Core.List.{List, [], _∷_, _++_}
 use lib.Dec.{eqb}
-use borrow.Author.Tests.{eq-eqb, ne-eqb}
+use borrow.Author.Tests.{eq-eqb, ne-eqb, eqb-true, not-false}
 use Rattle.float.proofs.Cases.{yes, no}
 use Rattle.stepping.specs.Refusals.{Test, _when_, firstOf, unlessRefused}
 
@@ -28,6 +28,13 @@ unfolding firstOf
 passed k true rest h = absurd (omega arith)
 passed k false rest h = (refl, h)
 
+-- the same for a test of what has to hold
+pub held : (k : ℕ) (b : Bool) (rest : List Test) → firstOf ((suc k when not b) ∷ rest) ≡ 0 → (b ≡ true) × (firstOf rest ≡ 0)
+held k b rest h = let p = passed k (not b) rest h in (not-false b (p .0), p .1)
+
+pub holds-later : {b : Bool} (k : ℕ) (rest : List Test) {j : ℕ} → b ≡ true → firstOf rest ≡ j → firstOf ((k when not b) ∷ rest) ≡ j
+holds-later k rest h e = later k rest (ap not h) e
+
 -- tests one after the other: the first ones refuse, or two of them pass and the others decide
 pub first-refused : (xs ys : List Test) {k : ℕ} → firstOf xs ≡ k → (k ≡ 0 → ⊥) → firstOf (xs ++ ys) ≡ k
 unfolding firstOf
@@ -48,6 +55,15 @@ module _ {A : Type 0} (refused : ℕ → A) where
   pub is-answered : {K : ℕ} {w answer : A} → K ≡ 0 → w ≡ answer → w ≡ unlessRefused refused K answer
   unfolding unlessRefused
   is-answered {K} e h = yes _ (eq-eqb K 0 e) h
+
+  -- what holds of every refusal, and of the answer where none is refused
+  pub either-way : (P : A → Type 0) (k : ℕ) (answer : A) → ((j : ℕ) → P (refused j)) → (k ≡ 0 → P answer) → P (unlessRefused refused k answer)
+  unfolding unlessRefused
+  either-way P k answer f g = go (eqb k 0) refl
+    where
+      go : (b : Bool) → eqb k 0 ≡ b → P (cond b answer (refused k))
+      go true e = g (eqb-true k 0 e)
+      go false e = f k
 
 -- a call that answers 0 where b holds, and the number k + 1 where it does not, as the first test
 module _ (k : ℕ) (b : Bool) {r : ℕ} (e : r ≡ cond b 0 (suc k)) where

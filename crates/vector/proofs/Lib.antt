@@ -2,6 +2,7 @@
 pub mod Lists
 pub mod Stores
 pub mod Columns
+pub mod Fronts
 pub mod Parts
 pub mod Matrices
 mod Four

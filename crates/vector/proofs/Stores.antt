@@ -1,4 +1,4 @@
--- `puts`: its length, what it leaves, what it holds, and one more store of a loop. Assumes nothing.
+-- `puts`: its length, what it leaves, what it holds, and one more store of a loop; the length of `putsColumn`. Assumes nothing.
 use Prim.Native.Nat.{ℕ, zero, suc, _+_, _-_, _<_, _≤_}
 use native.Mathlib.Omega.{arith}
 use native.Mathlib.Numerals.{add-one}
@@ -13,13 +13,18 @@ use lib.Dec.{eqb, ltb}
 use borrow.Author.Tests.{eq-eqb, ne-eqb, eqb-true, eqb-false, ltb-true, ltb-false}
 use borrow.Rule.Slice.PartMut.{putMid, postOf}
 use Rattle.float.proofs.Cases.{yes, no, by}
-use Rattle.vector.specs.Parts.{puts}
+use Rattle.vector.specs.Parts.{puts, putsColumn}
 
 module _ {A : Type 0} where
   pub length-puts : (w : List A) (at : ℕ) (f : ℕ → A) (n : ℕ) → length (puts w at f n) ≡ length w
   unfolding puts
   length-puts w at f zero = refl
   length-puts w at f (suc n) = simp length-set (length-puts w at f n)
+
+  pub length-putsColumn : (w : List A) (at n k : ℕ) (f : ℕ → A) (r : ℕ) → length (putsColumn w at n k f r) ≡ length w
+  unfolding putsColumn
+  length-putsColumn w at n k f zero = refl
+  length-putsColumn w at n k f (suc r) = simp length-set (length-putsColumn w at n k f r)
 
   -- what lies outside is left
   pub puts-left : (d : A) (w : List A) (at : ℕ) (f : ℕ → A) (n j : ℕ) → (j < at) ⊎ (at + n ≤ j) → getD (puts w at f n) j d ≡ getD w j d

@@ -1,0 +1,4 @@
+-- Demand3 has the theorems.
+mod Alike
+mod Fresh
+mod Booked

@@ -1,0 +1,8 @@
+-- Laws that dependents may cite.
+pub mod Requests
+pub mod Guards
+pub mod Lengths
+pub mod Memory
+pub mod Readers
+pub mod Fitting
+pub mod Passed

@@ -1,0 +1,44 @@
+-- The needed work as a call leaves it, and the work beyond it. Assumes nothing.
+use Prim.Native.Nat.{ℕ}
+use mathlib.Core.Path.{_≡_}
+use lib.ListN.{length, drop}
+use Rattle.vector.proofs.Fronts.{take-front, drop-front, length-replaced}
+use Rattle.rosenbrock.specs.Answers.{Lent}
+use Rattle.rosenbrock.specs.Stepper.{Call, System, needed, trimmed, untrimmed, result, stepped}
+use Rattle.rosenbrock.proofs.Lengths.{OutLong, called-keeps}
+
+-- a needed work as long as the old one, put in its place
+module _ (k : ℕ) (old new : Lent) (h : length (new .work) ≡ length (trimmed k old .work)) where
+  pub trim-untrim : trimmed k (untrimmed k old new) ≡ new
+  unfolding trimmed untrimmed
+  trim-untrim = λ i. record { state = new .state; work = take-front k (old .work) (new .work) h i; pivots = new .pivots }
+
+  pub untrim-tail : drop k (untrimmed k old new .work) ≡ drop k (old .work)
+  unfolding trimmed untrimmed
+  untrim-tail = drop-front k (old .work) (new .work) h
+
+  pub untrim-length : length (untrimmed k old new .work) ≡ length (old .work)
+  unfolding trimmed untrimmed
+  untrim-length = length-replaced k (old .work) (new .work) h
+
+module _ (c : Call) (y : System) where
+  result-keeps : OutLong (trimmed (needed (y .stepper .fixed)) (y .lent)) (result c y)
+  unfolding result
+  result-keeps = called-keeps _ c _ _
+
+  -- the needed memory after a call is what the call hands back
+  pub memory-after : trimmed (needed (y .stepper .fixed)) (stepped c y .system .lent) ≡ result c y .lent
+  unfolding stepped
+  memory-after = trim-untrim (needed (y .stepper .fixed)) (y .lent) (result c y .lent) (result-keeps .of-work)
+
+  pub tail-after : drop (needed (y .stepper .fixed)) (stepped c y .system .lent .work) ≡ drop (needed (y .stepper .fixed)) (y .lent .work)
+  unfolding stepped
+  tail-after = untrim-tail (needed (y .stepper .fixed)) (y .lent) (result c y .lent) (result-keeps .of-work)
+
+  pub work-after : length (stepped c y .system .lent .work) ≡ length (y .lent .work)
+  unfolding stepped
+  work-after = untrim-length (needed (y .stepper .fixed)) (y .lent) (result c y .lent) (result-keeps .of-work)
+
+  pub pivots-after : length (stepped c y .system .lent .pivots) ≡ length (y .lent .pivots)
+  unfolding stepped untrimmed trimmed
+  pivots-after = result-keeps .of-pivots
