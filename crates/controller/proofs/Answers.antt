@@ -8,6 +8,7 @@ use lib.Dec.{ltb}
 use lib.Ieee.{Float}
 use borrow.Author.Tests.{lt-ltb, le-ltb}
 use Rattle.stepping.specs.Refusals.{configuration, minimumStep, firstOf, unlessRefused}
+use Rattle.float.proofs.Cases.{told-not}
 use Rattle.stepping.proofs.Refusals.{here, later, none, is-refused, is-answered}
 use Rattle.proposal.specs.declared.StepDecision.{StepDecision}
 use Rattle.proposal.specs.Rules.{decision}
@@ -16,7 +17,6 @@ use Rattle.controller.specs.declared.Assessment.the-variants.{Decision, 
 use Rattle.controller.specs.declared.Settled.{Settled}
 use Rattle.controller.specs.Assess.{sound, usable, measured, exhausted, stuck, assessTests, refused, assessment}
 use Rattle.controller.specs.Calls.{settled}
-use Rattle.controller.proofs.General.{told}
 
 -- ---- new, reset and restore: n is what their guard answered
 module _ (K : ℕ) {n : ℕ} (e : n ≡ K) {k l : AdaptiveController} (f : k ≡ l) {r : Settled} where
@@ -56,22 +56,22 @@ module _ (k : AdaptiveController) (h err p : Float) {s : Bool} (e₁ : s ≡ sou
   by-16 q = is-refused (refused err) (Decision D) q (λ z. omega arith)
 
   pub unsound : not s ≡ true → Refused configuration ≡ assessment k h err p
-  unsound q = by-7 (here 7 _ (told e₁ q))
+  unsound q = by-7 (here 7 _ (told-not e₁ q))
 
   module _ (q₁ : not s ≡ false) {m : Bool} (e₂ : m ≡ measured h err) where
     pub unmeasured : not m ≡ true → Refused configuration ≡ assessment k h err p
-    unmeasured q = by-7 (later 7 _ (told e₁ q₁) (here 7 _ (told e₂ q)))
+    unmeasured q = by-7 (later 7 _ (told-not e₁ q₁) (here 7 _ (told-not e₂ q)))
 
     module _ (q₂ : not m ≡ false) {x : Bool} (e₃ : x ≡ exhausted (k .config) h err) where
       pub no-shorter : x ≡ true → MinimumStep err ≡ assessment k h err p
-      no-shorter q = by-16 (later 7 _ (told e₁ q₁) (later 7 _ (told e₂ q₂) (here 16 _ (sym e₃ ∙ q))))
+      no-shorter q = by-16 (later 7 _ (told-not e₁ q₁) (later 7 _ (told-not e₂ q₂) (here 16 _ (sym e₃ ∙ q))))
 
       module _ (q₃ : x ≡ false) {d : StepDecision} (e₄ : d ≡ D) {u : Bool} (e₅ : u ≡ usable (d .«next_step»)) where
         next-usable : u ≡ usable (D .«next_step»)
         next-usable = e₅ ∙ ap (λ (y : StepDecision). usable (y .«next_step»)) e₄
 
         pub unusable : not u ≡ true → Refused configuration ≡ assessment k h err p
-        unusable q = by-7 (later 7 _ (told e₁ q₁) (later 7 _ (told e₂ q₂) (later 16 _ (sym e₃ ∙ q₃) (here 7 _ (told next-usable q)))))
+        unusable q = by-7 (later 7 _ (told-not e₁ q₁) (later 7 _ (told-not e₂ q₂) (later 16 _ (sym e₃ ∙ q₃) (here 7 _ (told-not next-usable q)))))
 
         module _ (q₄ : not u ≡ false) {t : Bool} (e₆ : t ≡ stuck h d) where
           next-stuck : t ≡ stuck h D
@@ -79,11 +79,11 @@ module _ (k : AdaptiveController) (h err p : Float) {s : Bool} (e₁ : s ≡ sou
 
           pub stays : t ≡ true → MinimumStep err ≡ assessment k h err p
           stays q =
-              by-16 (later 7 _ (told e₁ q₁) (later 7 _ (told e₂ q₂) (later 16 _ (sym e₃ ∙ q₃) (later 7 _ (told next-usable q₄) (here 16 _ (sym next-stuck ∙ q))))))
+              by-16 (later 7 _ (told-not e₁ q₁) (later 7 _ (told-not e₂ q₂) (later 16 _ (sym e₃ ∙ q₃) (later 7 _ (told-not next-usable q₄) (here 16 _ (sym next-stuck ∙ q))))))
 
           pub decided : t ≡ false → Decision d ≡ assessment k h err p
           unfolding assessment
           decided q =
               is-answered (refused err)
-              (later 7 _ (told e₁ q₁) (later 7 _ (told e₂ q₂) (later 16 _ (sym e₃ ∙ q₃) (later 7 _ (told next-usable q₄) (later 16 _ (sym next-stuck ∙ q) none)))))
+              (later 7 _ (told-not e₁ q₁) (later 7 _ (told-not e₂ q₂) (later 16 _ (sym e₃ ∙ q₃) (later 7 _ (told-not next-usable q₄) (later 16 _ (sym next-stuck ∙ q) none)))))
               (ap Decision e₄)

@@ -1,5 +1,4 @@
 -- Laws that the functions' proofs cite. `Starred` and `Choice` have the theorems.
-mod General
 mod Answers
 pub mod Starred
 pub mod Choice

@@ -1,5 +1,5 @@
 -- Laws of Bool: a definition that goes by `cond`, one test at a time, with no rewriting of the goal; tests that are joined. Assumes nothing.
-use mathlib.Core.Path.{_≡_, refl, sym, _∙_, subst}
+use mathlib.Core.Path.{_≡_, refl, sym, ap, _∙_, subst}
 use mathlib.Core.Bool.{Bool, true, false, not, _&&_, _||_, cond, true≢false}
 use lib.Dec.{T}
 use borrow.Author.Tests.{not-true, not-false}
@@ -39,12 +39,18 @@ told-no {r} e h = sym e ∙ not-true r h
 pub told-yes : {r b : Bool} → r ≡ b → not r ≡ false → b ≡ true
 told-yes {r} e h = sym e ∙ not-false r h
 
+pub told-not : {r b v : Bool} → r ≡ b → not r ≡ v → not b ≡ v
+told-not e h = sym (ap not e) ∙ h
+
 -- a call that joins what two calls answered
 pub joined : {r x y a b : Bool} → r ≡ (x && y) → x ≡ a → y ≡ b → r ≡ (a && b)
 joined p q s = cc
 
 pub both : {a b : Bool} → a ≡ true → b ≡ true → (a && b) ≡ true
 both e h = simp (e, h)
+
+pub and-yes : {a b : Bool} → a ≡ true → b ≡ (a && b)
+and-yes h = simp h
 
 pub and-no : {a : Bool} (b : Bool) → a ≡ false → (a && b) ≡ false
 and-no b e = simp e

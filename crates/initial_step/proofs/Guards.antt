@@ -22,9 +22,6 @@ use Rattle.initial_step.specs.Norm.{rms}
 use Rattle.initial_step.specs.First.{misshapen, undirected, inputTests, slight, unbounded, guess, normTests, proposed}
 
 -- what a call's answer says of the test that it stands for
-pub told-not : {r b x : Bool} → r ≡ b → not r ≡ x → not b ≡ x
-told-not e h = ap not (sym e) ∙ h
-
 pub told-abs : {a b : Float} {x : Bool} → a ≡ b → ne a 𝟏 ≡ x → ne b 𝟏 ≡ x
 told-abs e h = ap (λ (y : Float). ne y 𝟏) (sym e) ∙ h
 

@@ -39,7 +39,7 @@ making-passed file time m e =
 -- ---- the calls
 
 module _ (fx : Fixed) (x : Progress) (m : Lent) where
-  file-passed : (file : List ℕ) (rest : List Test) → firstOf (fileTests fx file ++ rest) ≡ 0 → firstOf rest ≡ 0
+  file-passed : (file : List ℕ) (rest : List Test) → firstOf (fileTests (fx .s) file ++ rest) ≡ 0 → firstOf rest ≡ 0
   file-passed file rest e =
       let t₁ = held 11 (accepts file) _ e in
       let t₂ = passed 2 (eqb (tableauOf file .counts .kind) 1) _ (t₁ .1) in

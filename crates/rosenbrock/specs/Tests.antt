@@ -24,19 +24,20 @@ unfoldable pub shapeFits : ℕ → ℕ → ℕ → ℕ → ℕ → Bool
 shapeFits n s state work pivots =
     leb 1 n && (leb n 32 && (leb 1 s && (leb s 8 && (eqb state n && (eqb work (neededWork n s) && eqb pivots n)))))
 
--- 1: the record and what is lent with it fit each other
+-- 1: the numbers of the record and the lengths that are lent with it fit each other
+abbrev pub sizeTests : ℕ → ℕ → ℕ → ℕ → ℕ → ℕ → ℕ → List Test
+sizeTests n s request stage state work pivots =
+    (dimension when not (shapeFits n s state work pivots)) ∷ (dimension when not (requestFits n s request stage)) ∷ []
+
 abbrev pub fitTests : Fixed → Progress → Lent → List Test
-fitTests fx x m =
-    (dimension when not (shapeFits (fx .n) (fx .s) (length (m .state)) (length (m .work)) (length (m .pivots))))
-    ∷ (dimension when not (requestFits (fx .n) (fx .s) (x .request) (x .stage)))
-    ∷ []
+fitTests fx x m = sizeTests (fx .n) (fx .s) (x .request) (x .stage) (length (m .state)) (length (m .work)) (length (m .pivots))
 
 -- 12, 3, and 1 for another number of stages
-abbrev pub fileTests : Fixed → List ℕ → List Test
-fileTests fx file =
+abbrev pub fileTests : ℕ → List ℕ → List Test
+fileTests s file =
     (tableauFile when not (accepts file))
     ∷ (unsupportedTableau when eqb (tableauOf file .counts .kind) 1)
-    ∷ (dimension when not (eqb (stagesOf (tableauOf file)) (fx .s)))
+    ∷ (dimension when not (eqb (stagesOf (tableauOf file)) s))
     ∷ []
 
 -- 18
@@ -93,7 +94,7 @@ makingTests file time m =
 
 -- attempt and attempt_to begin with 1, 12, 3, 1, 18
 abbrev pub attemptTests : Fixed → List ℕ → Progress → Lent → List Test
-attemptTests fx file x m = fitTests fx x m ++ (fileTests fx file ++ (openTest x ∷ []))
+attemptTests fx file x m = fitTests fx x m ++ (fileTests (fx .s) file ++ (openTest x ∷ []))
 
 -- and go on with 14, 2, 5 for the step
 abbrev pub stepTests : Float → Progress → List Test
@@ -101,7 +102,7 @@ stepTests step x = pendingTest x ∷ timeTests (x .time) step
 
 -- supply: 1, 12, 3, 1, 17, 1, 13
 abbrev pub supplyTests : Fixed → List ℕ → List Float → Progress → Lent → List Test
-supplyTests fx file values x m = fitTests fx x m ++ (fileTests fx file ++ (requestTest x ∷ valueTests fx x m values))
+supplyTests fx file values x m = fitTests fx x m ++ (fileTests (fx .s) file ++ (requestTest x ∷ valueTests fx x m values))
 
 -- fail: 1, 17
 abbrev pub failTests : Fixed → Progress → Lent → List Test

@@ -6,7 +6,7 @@ use mathlib.Core.Bool.{Bool, true, false, not, cond}
 use mathlib.Core.List.{List, [], _∷_, _++_}
 use lib.Dec.{eqb}
 use borrow.Author.Tests.{eq-eqb, ne-eqb, eqb-true, not-false}
-use Rattle.float.proofs.Cases.{yes, no}
+use Rattle.float.proofs.Cases.{yes, no, told-not}
 use Rattle.stepping.specs.Refusals.{Test, _when_, firstOf, unlessRefused}
 
 -- the first test holds, or the others decide
@@ -98,3 +98,15 @@ module _ (k j : ℕ) (a b : Bool) {r : ℕ} (e : r ≡ cond a 0 (suc k)) where
 
     pub none-stops : t ≡ false → 0 ≡ firstOf ((suc k when not a) ∷ (j when b) ∷ [])
     none-stops h = sym (went-later k a e ((j when b) ∷ []) z (later j [] (sym f ∙ h) none))
+
+-- a list of two tests, each of which a call's answer fails, tested by `!`
+module _ (n m : ℕ) (a b : Bool) {r : Bool} (e : r ≡ a) where
+  pub first-fails : not r ≡ true → n ≡ firstOf ((n when not a) ∷ (m when not b) ∷ [])
+  first-fails h = sym (here n _ (told-not e h))
+
+  module _ (h : not r ≡ false) {q : Bool} (f : q ≡ b) where
+    pub second-fails : not q ≡ true → m ≡ firstOf ((n when not a) ∷ (m when not b) ∷ [])
+    second-fails k = sym (later n _ (told-not e h) (here m [] (told-not f k)))
+
+    pub none-fails : not q ≡ false → 0 ≡ firstOf ((n when not a) ∷ (m when not b) ∷ [])
+    none-fails k = sym (later n _ (told-not e h) (later m [] (told-not f k) none))

@@ -1,6 +1,6 @@
 -- `controller::new_refusal` meets its contract. Assumes nothing.
 use Rattle.controller.specs.Assess.{usable}
-use Rattle.controller.proofs.General.{first-fails, second-fails, none-fails}
+use Rattle.stepping.proofs.Refusals.{first-fails, second-fails, none-fails}
 use Rattle.controller.proofs.new_refusal.Statement.{statement}
 use Rattle.controller.proofs.new_refusal.Tie as tie
 

@@ -2,7 +2,8 @@
 use mathlib.Core.Path.{refl}
 use Rattle.float.proofs.Cases.{or-here, or-next}
 use Rattle.initial_step.specs.First.{undirected}
-use Rattle.initial_step.proofs.Guards.{told-not, told-abs}
+use Rattle.float.proofs.Cases.{told-not}
+use Rattle.initial_step.proofs.Guards.{told-abs}
 use Rattle.initial_step.proofs.undirected.Statement.{statement}
 use Rattle.initial_step.proofs.undirected.Tie as tie
 

@@ -1,6 +1,6 @@
 -- `controller::AdaptiveController::reset_refusal` meets its contract. Assumes nothing.
 use Rattle.controller.specs.Assess.{usable}
-use Rattle.controller.proofs.General.{first-fails, second-fails, none-fails}
+use Rattle.stepping.proofs.Refusals.{first-fails, second-fails, none-fails}
 use Rattle.controller.proofs.AdaptiveController.reset_refusal.Statement.{statement}
 use Rattle.controller.proofs.AdaptiveController.reset_refusal.Tie as tie
 

@@ -1,6 +1,6 @@
 -- `controller::AdaptiveController::restore_refusal` meets its contract. Assumes nothing.
 use Rattle.controller.specs.Calls.{restorable}
-use Rattle.controller.proofs.General.{first-fails, second-fails, none-fails}
+use Rattle.stepping.proofs.Refusals.{first-fails, second-fails, none-fails}
 use Rattle.controller.proofs.AdaptiveController.restore_refusal.Statement.{statement}
 use Rattle.controller.proofs.AdaptiveController.restore_refusal.Tie as tie
 
