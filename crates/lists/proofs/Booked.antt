@@ -58,7 +58,7 @@ module _ (fx : Fixed) where
   guarded-booked c b tests x m o h g = guarded-either tests x m o (λ (q : Out). Booked c b q) (refusal-booked c b x m h) g
 
   -- nothing is open or pending
-  at-rest : (x : Progress) (m : Lent) (b : book.Book) → x .request ≡ 0 → x .time ≡ b .time → m .state ≡ b .state → Agrees x m b
+  pub at-rest : (x : Progress) (m : Lent) (b : book.Book) → x .request ≡ 0 → x .time ≡ b .time → m .state ≡ b .state → Agrees x m b
   unfolding isOpen isPending
   at-rest x m b r t s = record { time = t; state = s; while-open = λ o. never o (ap isOpen r); while-pending = λ p. never p (ap isPending r) }
 

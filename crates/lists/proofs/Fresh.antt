@@ -61,7 +61,7 @@ module _ (file : List ℕ) (policy : TimeDifferencePolicy) (time : Float) (m : L
   unfolding madeOf untrimmed cleared trimmed
   made-pivots = length-replicate _ _
 
-  made-memory : trimmed k (madeOf file policy time m .lent) ≡ cleared (m .state) (trimmed k m)
+  pub made-memory : trimmed k (madeOf file policy time m .lent) ≡ cleared (m .state) (trimmed k m)
   unfolding madeOf
   made-memory = trim-untrim k m (cleared (m .state) (trimmed k m)) (length-cleared (m .state) (trimmed k m))
 

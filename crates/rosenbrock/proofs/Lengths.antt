@@ -50,7 +50,7 @@ module _ (fx : Fixed) (x : Progress) (m : Lent) where
   unfolding failed
   failed-keeps = record { of-work = refl; of-pivots = refl }
 
-  accepted-keeps : OutLong m (accepted fx x m)
+  pub accepted-keeps : OutLong m (accepted fx x m)
   unfolding accepted
   accepted-keeps = record { of-work = refl; of-pivots = refl }
 
@@ -58,11 +58,11 @@ module _ (fx : Fixed) (x : Progress) (m : Lent) where
   unfolding rejected
   rejected-keeps = record { of-work = refl; of-pivots = refl }
 
-  injected-keeps : (derivative : List Float) → OutLong m (injected fx derivative x m)
+  pub injected-keeps : (derivative : List Float) → OutLong m (injected fx derivative x m)
   unfolding injected
   injected-keeps derivative = record { of-work = length-puts (m .work) _ _ (fx .n); of-pivots = refl }
 
-  restarted-keeps : (time : Float) (state : List Float) → OutLong m (restarted time state m)
+  pub restarted-keeps : (time : Float) (state : List Float) → OutLong m (restarted time state m)
   unfolding restarted cleared
   restarted-keeps time state = record { of-work = length-replicate _ _; of-pivots = length-replicate _ _ }
 
