@@ -1,17 +1,17 @@
 -- The claims about every list of calls, whatever the host supplies. Assumes nothing.
-use mathlib.Core.Path.{_≡_, refl, sym, _∙_, subst}
+use mathlib.Core.Path.{refl, sym, _∙_, subst}
 use mathlib.Core.List.{List}
 use Prim.Native.Nat.{ℕ}
 use lib.Ieee.{Float}
 use Rattle.time_difference.specs.declared.TimeDifferencePolicy.{TimeDifferencePolicy}
 use Rattle.rosenbrock.specs.Answers.{Lent}
 use Rattle.rosenbrock.specs.Calls.{fresh, cleared}
-use Rattle.rosenbrock.specs.Stepper.{System, trimmed, untrimmed, madeOf, make, made}
+use Rattle.rosenbrock.specs.Stepper.{System, trimmed, untrimmed, madeOf}
 use Rattle.rosenbrock.proofs.Memory.{tail-after, work-after, pivots-after}
 use Rattle.rosenbrock.proofs.Readers.{read-unchanged}
 use Rattle.rosenbrock.proofs.Fitting.{fits-tests}
 use Rattle.lists.specs.Run.{after}
-use Rattle.lists.specs.Book.{Book, opened}
+use Rattle.lists.specs.Book.{opened}
 use Rattle.lists.specs.Claim.{Demand3, AlwaysFits, TailUntouched, ReadersChangeNothing}
 use Rattle.lists.proofs.Alike.{work-through, pivots-through}
 use Rattle.lists.proofs.Fresh.{made-is, made-long, born, born-after, indistinguishable}

@@ -16,7 +16,7 @@ use Rattle.tableau.specs.File.{tableauOf, accepts}
 use Rattle.rosenbrock.specs.declared.Fixed.{Fixed}
 use Rattle.rosenbrock.specs.Answers.{Lent, lending, done}
 use Rattle.rosenbrock.specs.Tests.{shapeFits, makingTests}
-use Rattle.rosenbrock.specs.Calls.{Out, fresh, cleared, restarted, resetOf}
+use Rattle.rosenbrock.specs.Calls.{Out, cleared, restarted, resetOf}
 use Rattle.rosenbrock.specs.Stepper.{Call, reset, called, System, needed, trimmed, untrimmed, result, stepped, Made, not-made, made, fixedBy, madeOf, make}
 use Rattle.rosenbrock.proofs.Guards.{guarded-passed, done-passed}
 use Rattle.rosenbrock.proofs.Memory.{trim-untrim, untrim-length, memory-after}
@@ -143,7 +143,7 @@ module _ (y : System) (time : Float) (state : List Float) (e : stepped (reset ti
     new-shape =
         let t = tests-tell in
         let old : shapeFits (y .stepper .fixed .n) (y .stepper .fixed .s) (length (y .lent .state)) (length (take (needed (y .stepper .fixed)) (y .lent .work))) (length (y .lent .pivots)) ≡ true =
-            shape-fits _ _ _ _ _ (t .shape)
+        shape-fits _ _ _ _ _ (t .shape)
         in
         cc (old, t .size, t .shape .of-state, front-same, lp, b .stages)
 

@@ -1,35 +1,31 @@
 -- In a list of calls record and memory always fit each other: the first tests never refuse, and no column or stage out of range is asked for,
 -- whatever the host supplies and whatever the kernels answer. Assumes nothing.
-use mathlib.Core.Path.{_≡_, refl, sym, ap, _∙_, subst}
-use Prim.Native.Nat.{ℕ, _+_, _*_, _≤_, _<_}
-use native.Mathlib.Omega.{arith}
-use mathlib.Core.Bool.{Bool, true}
+use mathlib.Core.Path.{_≡_, sym, _∙_, subst}
+use Prim.Native.Nat.{ℕ}
+use mathlib.Core.Bool.{Bool}
 use mathlib.Core.List.{List, [], _∷_}
-use lib.ListN.{length, length-replicate}
+use lib.ListN.{length}
 use lib.Ieee.{Float}
-use Rattle.vector.proofs.Parts.{length-part}
 use Rattle.stepping.specs.Refusals.{Test, firstOf}
 use Rattle.stepping.specs.declared.Endpoint.{Endpoint}
 use Rattle.stepping.specs.declared.Endpoint.the-variants.{Step, Refused}
 use Rattle.time_difference.specs.declared.TimeDifferencePolicy.{TimeDifferencePolicy}
-use Rattle.stages.specs.Layout.{neededWork}
 use Rattle.attempts.specs.Attempt.{Stopped}
 use Rattle.attempts.proofs.Requests.{InRange, start-fits, resume-fits}
 use Rattle.rosenbrock.specs.declared.Fixed.{Fixed}
 use Rattle.rosenbrock.specs.declared.Progress.{Progress}
-use Rattle.rosenbrock.specs.Requests.{requestFits}
-use Rattle.rosenbrock.specs.Answers.{Lent, candidateOf}
+use Rattle.rosenbrock.specs.Answers.{Lent}
 use Rattle.rosenbrock.specs.Calls.{Out, refusal, guarded, givenBy, progressAfter, settle, opening, opened, attemptBy, attemptOf, towards, attemptToOf, supplyOf, failed, failOf, accepted, acceptOf, rejected, rejectOf, injected, injectOf, fresh, cleared, restarted, resetOf}
 use Rattle.rosenbrock.specs.Readers.{answered, readOf}
-use Rattle.rosenbrock.specs.Stepper.{Form, Call, attempt, attempt-to, supply, fail, accept, reject, inject-derivative, reset, read, called, System, needed, trimmed, result, stepped, made, fixedBy, madeOf, make}
+use Rattle.rosenbrock.specs.Stepper.{Call, attempt, attempt-to, supply, fail, accept, reject, inject-derivative, reset, read, called, System, needed, trimmed, result, stepped, made, fixedBy, madeOf, make}
 use Rattle.rosenbrock.proofs.Requests.{nothing-fits, fits-after, in-range}
 use Rattle.rosenbrock.proofs.Guards.{guarded-either}
 use Rattle.rosenbrock.proofs.Lengths.{OutLong, opened-keeps, resumed-keeps, accepted-keeps, injected-keeps, restarted-keeps}
 use Rattle.rosenbrock.proofs.Memory.{memory-after}
-use Rattle.rosenbrock.proofs.Fitting.{Shape, LentShape, Fits}
+use Rattle.rosenbrock.proofs.Fitting.{LentShape, candidate-length, Fits}
 use Rattle.rosenbrock.proofs.Passed.{supply-passed, reset-passed, making-passed}
 use Rattle.lists.specs.Run.{after}
-use Rattle.lists.proofs.Fresh.{made-is, made-passed, made-memory, length-cleared}
+use Rattle.lists.proofs.Fresh.{made-is, made-passed, made-memory}
 
 -- the memory that a call leaves
 shape-after : (fx : Fixed) (m : Lent) (o : Out) → LentShape fx m → OutLong m o → length (o .lent .state) ≡ fx .n → LentShape fx (o .lent)
@@ -43,10 +39,6 @@ shape-after fx m o h l e =
       of-work = l .of-work ∙ h .of-work;
       of-pivots = l .of-pivots ∙ h .of-pivots;
     }
-
-candidate-length : (fx : Fixed) (m : Lent) → LentShape fx m → length (candidateOf fx m) ≡ fx .n
-unfolding candidateOf neededWork
-candidate-length fx m h = let e = h .of-work in length-part 0 (fx .n) (m .work) (omega arith)
 
 module _ (fx : Fixed) where
   abbrev FitsAfter : Out → Type 0
@@ -94,7 +86,7 @@ module _ (fx : Fixed) where
   restarted-fits : (time : Float) (state : List Float) (m : Lent) → LentShape fx m → length state ≡ fx .n → FitsAfter (restarted time state m)
   unfolding restarted fresh cleared
   restarted-fits time state m h e =
-      record { shape = shape-after fx m (restarted time state m) h (restarted-keeps fx (fresh time) m time state) e; request = nothing-fits (fx .n) (fx .s) }
+      record { shape = shape-after fx m (restarted time state m) h (restarted-keeps time state m) e; request = nothing-fits (fx .n) (fx .s) }
 
   called-fits : (c : Call) (x : Progress) (m : Lent) → Fits fx x m → FitsAfter (called fx c x m)
   unfolding called attemptOf attemptToOf supplyOf givenBy failOf acceptOf rejectOf injectOf resetOf readOf answered
