@@ -53,9 +53,9 @@ module _ (fx : Fixed) where
   guarded-booked c b tests x m o h g = guarded-either tests x m o (λ (q : Out). Booked c b q) (refusal-booked c b x m h) g
 
   -- nothing is open or pending
-  pub at-rest : (x : Progress) (m : Lent) (b : book.Book) → x .request ≡ 0 → x .time ≡ b .time → m .state ≡ b .state → Agrees x m b
+  pub idle-agrees : (x : Progress) (m : Lent) (b : book.Book) → x .request ≡ 0 → x .time ≡ b .time → m .state ≡ b .state → Agrees x m b
   unfolding isOpen isPending
-  at-rest x m b r t s = record { time = t; state = s; while-open = λ o. never o (ap isOpen r); while-pending = λ p. never p (ap isPending r) }
+  idle-agrees x m b r t s = record { time = t; state = s; while-open = λ o. never o (ap isOpen r); while-pending = λ p. never p (ap isPending r) }
 
   -- an open attempt stops, with the record x and the book b at its start, and the step in the book as the call is entered
   module _ (c : Call) (x : Progress) (m : Lent) (b : book.Book) (t : x .time ≡ b .time) (s : m .state ≡ b .state)
@@ -103,15 +103,15 @@ module _ (fx : Fixed) where
       let is : book.accepting (b .candidate) b ≡ book.book (b .time ⊕ b .step) (candidateOf fx m) (b .step) none =
       ap (λ k. book.accepting k b) (q .1)
       in
-      at-rest _ _ _ refl (ap₂ _⊕_ (h .time) (q .0) ∙ sym (ap (λ (r : book.Book). r .time) is)) (sym (ap (λ (r : book.Book). r .state) is))
+      idle-agrees _ _ _ refl (ap₂ _⊕_ (h .time) (q .0) ∙ sym (ap (λ (r : book.Book). r .time) is)) (sym (ap (λ (r : book.Book). r .state) is))
 
   rejected-booked : (f : Form) (x : Progress) (m : Lent) (b : book.Book) → Agrees x m b → Booked (reject f) b (rejected x m)
   unfolding rejected progressAfter book.fed book.kept book.entered
-  rejected-booked f x m b h = at-rest _ _ _ refl (h .time) (h .state)
+  rejected-booked f x m b h = idle-agrees _ _ _ refl (h .time) (h .state)
 
   failed-booked : (x : Progress) (m : Lent) (b : book.Book) → Agrees x m b → Booked fail b (failed x m)
   unfolding failed progressAfter book.fed book.kept
-  failed-booked x m b h = at-rest _ _ _ refl (h .time) (h .state)
+  failed-booked x m b h = idle-agrees _ _ _ refl (h .time) (h .state)
 
   injected-booked : (derivative : List Float) (x : Progress) (m : Lent) (b : book.Book) → Agrees x m b → isPending (x .request) ≡ false
       → Booked (inject-derivative derivative) b (injected fx derivative x m)
@@ -121,7 +121,7 @@ module _ (fx : Fixed) where
 
   restarted-booked : (time : Float) (state : List Float) (m : Lent) (b : book.Book) → Booked (reset time state) b (restarted time state m)
   unfolding restarted fresh cleared book.fed book.kept book.entered
-  restarted-booked time state m b = at-rest _ _ _ refl refl refl
+  restarted-booked time state m b = idle-agrees _ _ _ refl refl refl
 
   answered-booked : (q : Query) (x : Progress) (m : Lent) (b : book.Book) → Agrees x m b → Booked (read q) b (answered q fx x m)
   unfolding answered book.fed book.kept book.entered

@@ -14,14 +14,14 @@ use Rattle.lists.specs.Run.{after}
 use Rattle.lists.specs.Book.{opened}
 use Rattle.lists.specs.Claim.{Demand3, AlwaysFits, TailUntouched, ReadersChangeNothing}
 use Rattle.lists.proofs.Alike.{work-through, pivots-through}
-use Rattle.lists.proofs.Fresh.{made-is, made-long, born, born-after, indistinguishable}
-use Rattle.lists.proofs.Booked.{AllAgrees, at-rest, run-agrees}
+use Rattle.lists.proofs.Fresh.{made-is, made-long, from-making, from-making-after, indistinguishable}
+use Rattle.lists.proofs.Booked.{AllAgrees, idle-agrees, run-agrees}
 use Rattle.lists.proofs.Steady.{made-fits, after-fits}
 
 -- a new stepper agrees with a new book
 begins : (file : List ℕ) (policy : TimeDifferencePolicy) (time : Float) (m : Lent) → AllAgrees (madeOf file policy time m) (opened time (m .state))
 unfolding madeOf opened fresh cleared trimmed untrimmed
-begins file policy time m = at-rest _ _ _ _ refl refl refl
+begins file policy time m = idle-agrees _ _ _ _ refl refl refl
 
 pub demand-3 : Demand3
 demand-3 file policy time m y e calls =
@@ -38,7 +38,7 @@ demand-3 file policy time m y e calls =
           is-done
           file
           policy
-          (born-after file policy y before (born file policy time m y e))
+          (from-making-after file policy y before (from-making file policy time m y e))
           work′
           pivots′
           (lw ∙ sym (long .of-work) ∙ sym (work-through y before))

@@ -73,7 +73,7 @@ pub restarted-keeps : (time : Float) (state : List Float) (m : Lent) → OutLong
 unfolding restarted cleared
 restarted-keeps time state m = record { of-work = length-replicate _ _; of-pivots = length-replicate _ _ }
 
--- the record as an attempt opens says nothing of the memory
+-- ---- every call
 attemptBy-keeps : (fx : Fixed) (file : List ℕ) (step : Float) (jacobian partial : Bool) (x : Progress) (m : Lent) → OutLong m (attemptBy fx file step jacobian partial x m)
 unfolding attemptBy
 attemptBy-keeps fx file step jacobian partial x m = guarded-keeps fx x m _ _ (opened-keeps fx (opening step jacobian partial x) m file)
