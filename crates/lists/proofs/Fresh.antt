@@ -40,7 +40,7 @@ module _ (file : List ℕ) (policy : TimeDifferencePolicy) (time : Float) (m : L
       let k = firstOf (makingTests file time (trimmed (needed (fixedBy file policy m)) m)) in
       either-way not-made (λ (r : Made). r ≡ made y → k ≡ 0) k (made (madeOf file policy time m)) (λ j h. cc) (λ z _. z) e
 
-pub length-cleared : (state : List Float) (m : Lent) → length (cleared state m .work) ≡ length (m .work)
+length-cleared : (state : List Float) (m : Lent) → length (cleared state m .work) ≡ length (m .work)
 unfolding cleared
 length-cleared state m = length-replicate _ _
 
