@@ -1,11 +1,10 @@
 -- An open attempt keeps the lengths of the work and of the pivots, whatever the kernels write. Assumes nothing.
 use Prim.Native.Nat.{ℕ, suc, _*_}
-use mathlib.Core.Path.{_≡_, refl, _∙_}
+use mathlib.Core.Path.{_≡_, _∙_}
 use mathlib.Core.Bool.{Bool, true, false}
 use mathlib.Core.List.{List}
 use lib.ListN.{length}
 use lib.Ieee.{Float}
-use Rattle.float.specs.Operators.{𝟎}
 use Rattle.vector.specs.Lists.{el}
 use Rattle.vector.proofs.Stores.{length-puts}
 use Rattle.time_difference.specs.declared.Probes.{Probes}

@@ -3,11 +3,10 @@
 use mathlib.Core.Path.{_≡_, refl, sym, ap, _∙_}
 use mathlib.Core.List.{List, [], _∷_}
 use lib.ListN.{length}
-use Rattle.rosenbrock.specs.Answers.{Lent}
 use Rattle.rosenbrock.specs.Calls.{Out}
 use Rattle.rosenbrock.specs.Stepper.{Call, System, trimmed, result, stepped}
 use Rattle.rosenbrock.proofs.Memory.{memory-after, work-after, pivots-after}
-use Rattle.lists.specs.Run.{after, Accepted, acceptedIn, Seen, seen, run}
+use Rattle.lists.specs.Run.{after, acceptedIn, seen, run}
 use Rattle.lists.specs.Claim.{Same}
 
 result-same : (c : Call) (y z : System) → Same y z → result c y ≡ result c z

@@ -9,18 +9,18 @@ use lib.Ieee.{Float}
 use Rattle.float.specs.Operators.{_⊕_, _⊖_}
 use Rattle.float.proofs.Cases.{never}
 use Rattle.stepping.specs.Refusals.{Test, firstOf}
-use Rattle.stepping.specs.declared.Checked.the-variants as checked
 use Rattle.stepping.specs.declared.Endpoint.{Endpoint}
 use Rattle.stepping.specs.declared.Endpoint.the-variants as endpoint
 use Rattle.stepping.specs.Time.{timeTests, checkedTime, endpointStep}
-use Rattle.stepping.proofs.Refusals.{passed, is-answered}
+use Rattle.stepping.proofs.Refusals.{passed}
+use Rattle.stepping.proofs.Answers.{tests-reached}
 use Rattle.attempts.specs.declared.Marks.{Marks}
 use Rattle.attempts.specs.declared.Ending.{Ending}
 use Rattle.attempts.specs.declared.Ending.the-variants.{Asks, Ends, Shows}
 use Rattle.attempts.specs.Attempt.{Stopped, stopped}
 use Rattle.rosenbrock.specs.declared.Fixed.{Fixed}
 use Rattle.rosenbrock.specs.declared.Progress.{Progress}
-use Rattle.rosenbrock.specs.Requests.{isPending, isOpen, requestAfter, stageAfter}
+use Rattle.rosenbrock.specs.Requests.{isPending, isOpen, requestAfter}
 use Rattle.rosenbrock.specs.Answers.{Lent, candidateOf, viewOf, answerOf}
 use Rattle.rosenbrock.specs.Calls.{Out, refusal, guarded, progressAfter, settle, opening, opened, attemptBy, attemptOf, towards, attemptToOf, supplyOf, failed, failOf, accepted, acceptOf, rejected, rejectOf, injected, injectOf, fresh, cleared, restarted, resetOf}
 use Rattle.rosenbrock.specs.Readers.{Query, answered, readOf}
@@ -29,13 +29,8 @@ use Rattle.rosenbrock.proofs.Requests.{asked-not-pending}
 use Rattle.rosenbrock.proofs.Guards.{guarded-either}
 use Rattle.rosenbrock.proofs.Memory.{memory-after}
 use Rattle.rosenbrock.proofs.Passed.{supply-passed, decision-passed, inject-passed}
-use Rattle.lists.specs.Run.{Accepted, acceptedIn, seen, run}
+use Rattle.lists.specs.Run.{acceptedIn, seen, run}
 use Rattle.lists.specs.Book as book
-
--- the book's step after a step that passes checked_time
-checked-step : (time step : Float) → firstOf (timeTests time step) ≡ 0 → checkedTime time step ≡ checked.At (time ⊕ step)
-unfolding checkedTime
-checked-step time step e = sym (is-answered checked.Refused e refl)
 
 module _ (fx : Fixed) where
   -- Time and state are the book's; so is the step while an attempt is open or a candidate is pending, and then the candidate.
@@ -58,13 +53,13 @@ module _ (fx : Fixed) where
   guarded-booked c b tests x m o h g = guarded-either tests x m o (λ (q : Out). Booked c b q) (refusal-booked c b x m h) g
 
   -- nothing is open or pending
-  at-rest : (x : Progress) (m : Lent) (b : book.Book) → x .request ≡ 0 → x .time ≡ b .time → m .state ≡ b .state → Agrees x m b
+  pub idle-agrees : (x : Progress) (m : Lent) (b : book.Book) → x .request ≡ 0 → x .time ≡ b .time → m .state ≡ b .state → Agrees x m b
   unfolding isOpen isPending
-  at-rest x m b r t s = record { time = t; state = s; while-open = λ o. never o (ap isOpen r); while-pending = λ p. never p (ap isPending r) }
+  idle-agrees x m b r t s = record { time = t; state = s; while-open = λ o. never o (ap isOpen r); while-pending = λ p. never p (ap isPending r) }
 
   -- an open attempt stops, with the record x and the book b at its start, and the step in the book as the call is entered
   module _ (c : Call) (x : Progress) (m : Lent) (b : book.Book) (t : x .time ≡ b .time) (s : m .state ≡ b .state)
-    (t′ : x .time ≡ book.entered c b .time) (s′ : m .state ≡ book.entered c b .state) (h : x .step ≡ book.entered c b .step) where
+      (t′ : x .time ≡ book.entered c b .time) (s′ : m .state ≡ book.entered c b .state) (h : x .step ≡ book.entered c b .step) where
     ended-booked : (marks : Marks) (e : Ending) (work : List Float) (pivots : List ℕ)
         → Booked c b (settle fx x m (stopped (record { marks = marks; ending = e }) work pivots))
     unfolding settle progressAfter requestAfter answerOf viewOf isOpen isPending book.fed book.kept
@@ -83,7 +78,7 @@ module _ (fx : Fixed) where
     unfolding opened opening book.stepped
     opened-booked step e z =
         let is : book.entered c b ≡ book.book (b .time) (b .state) ((b .time ⊕ step) ⊖ b .time) (b .candidate) =
-            e ∙ ap (λ r. book.stepped r b) (checked-step (b .time) step (ap (λ (t : Float). firstOf (timeTests t step)) (sym (h .time)) ∙ z))
+        e ∙ ap (λ r. book.stepped r b) (tests-reached (b .time) step (ap (λ (t : Float). firstOf (timeTests t step)) (sym (h .time)) ∙ z))
         in
         settle-booked c (opening step jacobian partial x) m b (h .time) (h .state) (h .time ∙ sym (ap (λ (q : book.Book). q .time) is))
         (h .state ∙ sym (ap (λ (q : book.Book). q .state) is))
@@ -106,17 +101,17 @@ module _ (fx : Fixed) where
   accepted-booked f x m b h p =
       let q = h .while-pending p in
       let is : book.accepting (b .candidate) b ≡ book.book (b .time ⊕ b .step) (candidateOf fx m) (b .step) none =
-          ap (λ k. book.accepting k b) (q .1)
+      ap (λ k. book.accepting k b) (q .1)
       in
-      at-rest _ _ _ refl (ap₂ _⊕_ (h .time) (q .0) ∙ sym (ap (λ (r : book.Book). r .time) is)) (sym (ap (λ (r : book.Book). r .state) is))
+      idle-agrees _ _ _ refl (ap₂ _⊕_ (h .time) (q .0) ∙ sym (ap (λ (r : book.Book). r .time) is)) (sym (ap (λ (r : book.Book). r .state) is))
 
   rejected-booked : (f : Form) (x : Progress) (m : Lent) (b : book.Book) → Agrees x m b → Booked (reject f) b (rejected x m)
   unfolding rejected progressAfter book.fed book.kept book.entered
-  rejected-booked f x m b h = at-rest _ _ _ refl (h .time) (h .state)
+  rejected-booked f x m b h = idle-agrees _ _ _ refl (h .time) (h .state)
 
   failed-booked : (x : Progress) (m : Lent) (b : book.Book) → Agrees x m b → Booked fail b (failed x m)
   unfolding failed progressAfter book.fed book.kept
-  failed-booked x m b h = at-rest _ _ _ refl (h .time) (h .state)
+  failed-booked x m b h = idle-agrees _ _ _ refl (h .time) (h .state)
 
   injected-booked : (derivative : List Float) (x : Progress) (m : Lent) (b : book.Book) → Agrees x m b → isPending (x .request) ≡ false
       → Booked (inject-derivative derivative) b (injected fx derivative x m)
@@ -126,7 +121,7 @@ module _ (fx : Fixed) where
 
   restarted-booked : (time : Float) (state : List Float) (m : Lent) (b : book.Book) → Booked (reset time state) b (restarted time state m)
   unfolding restarted fresh cleared book.fed book.kept book.entered
-  restarted-booked time state m b = at-rest _ _ _ refl refl refl
+  restarted-booked time state m b = idle-agrees _ _ _ refl refl refl
 
   answered-booked : (q : Query) (x : Progress) (m : Lent) (b : book.Book) → Agrees x m b → Booked (read q) b (answered q fx x m)
   unfolding answered book.fed book.kept book.entered

@@ -16,7 +16,7 @@ use Rattle.tableau.specs.File.{tableauOf, accepts}
 use Rattle.rosenbrock.specs.declared.Fixed.{Fixed}
 use Rattle.rosenbrock.specs.Answers.{Lent, lending, done}
 use Rattle.rosenbrock.specs.Tests.{shapeFits, makingTests}
-use Rattle.rosenbrock.specs.Calls.{Out, fresh, cleared, restarted, resetOf}
+use Rattle.rosenbrock.specs.Calls.{Out, cleared, restarted, resetOf}
 use Rattle.rosenbrock.specs.Stepper.{Call, reset, called, System, needed, trimmed, untrimmed, result, stepped, Made, not-made, made, fixedBy, madeOf, make}
 use Rattle.rosenbrock.proofs.Guards.{guarded-passed, done-passed}
 use Rattle.rosenbrock.proofs.Memory.{trim-untrim, untrim-length, memory-after}
@@ -40,7 +40,7 @@ module _ (file : List ℕ) (policy : TimeDifferencePolicy) (time : Float) (m : L
       let k = firstOf (makingTests file time (trimmed (needed (fixedBy file policy m)) m)) in
       either-way not-made (λ (r : Made). r ≡ made y → k ≡ 0) k (made (madeOf file policy time m)) (λ j h. cc) (λ z _. z) e
 
-pub length-cleared : (state : List Float) (m : Lent) → length (cleared state m .work) ≡ length (m .work)
+length-cleared : (state : List Float) (m : Lent) → length (cleared state m .work) ≡ length (m .work)
 unfolding cleared
 length-cleared state m = length-replicate _ _
 
@@ -61,7 +61,7 @@ module _ (file : List ℕ) (policy : TimeDifferencePolicy) (time : Float) (m : L
   unfolding madeOf untrimmed cleared trimmed
   made-pivots = length-replicate _ _
 
-  made-memory : trimmed k (madeOf file policy time m .lent) ≡ cleared (m .state) (trimmed k m)
+  pub made-memory : trimmed k (madeOf file policy time m .lent) ≡ cleared (m .state) (trimmed k m)
   unfolding madeOf
   made-memory = trim-untrim k m (cleared (m .state) (trimmed k m)) (length-cleared (m .state) (trimmed k m))
 
@@ -70,15 +70,15 @@ module _ (file : List ℕ) (policy : TimeDifferencePolicy) (time : Float) (m : L
 
 -- ---- what stays from the making on
 
-pub record Born (file : List ℕ) (policy : TimeDifferencePolicy) (y : System) : Type 0 where
+pub record FromMaking (file : List ℕ) (policy : TimeDifferencePolicy) (y : System) : Type 0 where
   pub stages : y .stepper .fixed .s ≡ stagesOf (tableauOf file)
   pub policy-is : y .stepper .fixed .policy ≡ policy
   pub file-accepted : accepts file ≡ true
   pub not-hybrid : eqb (tableauOf file .counts .kind) 1 ≡ false
 
-pub born : (file : List ℕ) (policy : TimeDifferencePolicy) (time : Float) (m : Lent) (y : System) → make file policy time m ≡ made y → Born file policy y
+pub from-making : (file : List ℕ) (policy : TimeDifferencePolicy) (time : Float) (m : Lent) (y : System) → make file policy time m ≡ made y → FromMaking file policy y
 unfolding madeOf fixedBy
-born file policy time m y e =
+from-making file policy time m y e =
     let is : madeOf file policy time m ≡ y = made-is file policy time m y e in
     let t = making-passed file time (trimmed (needed (fixedBy file policy m)) m) (made-passed file policy time m y e) in
     record {
@@ -88,27 +88,27 @@ born file policy time m y e =
       not-hybrid = t .not-hybrid;
     }
 
-pub born-after : (file : List ℕ) (policy : TimeDifferencePolicy) (y : System) (cs : List Call) → Born file policy y → Born file policy (after y cs)
+pub from-making-after : (file : List ℕ) (policy : TimeDifferencePolicy) (y : System) (cs : List Call) → FromMaking file policy y → FromMaking file policy (after y cs)
 unfolding after stepped
-born-after file policy y [] b = b
-born-after file policy y (c ∷ cs) b =
-    born-after file policy (stepped c y .system) cs
+from-making-after file policy y [] b = b
+from-making-after file policy y (c ∷ cs) b =
+    from-making-after file policy (stepped c y .system) cs
     (record { stages = b .stages; policy-is = b .policy-is; file-accepted = b .file-accepted; not-hybrid = b .not-hybrid })
 
 -- ---- after a reset that was not refused
 
 module _ (y : System) (time : Float) (state : List Float) (e : stepped (reset time state) y .answer ≡ done) where
-  -- what its tests tell
-  tests-tell : ResetPassed (y .stepper .fixed) (trimmed (needed (y .stepper .fixed)) (y .lent)) time state
+  -- what its tests say
+  tests-passed : ResetPassed (y .stepper .fixed) (trimmed (needed (y .stepper .fixed)) (y .lent)) time state
   unfolding stepped result called resetOf
-  tests-tell = reset-passed (y .stepper .fixed) time state (y .stepper .progress) (trimmed (needed (y .stepper .fixed)) (y .lent)) (done-passed _ _ _ _ e)
+  tests-passed = reset-passed (y .stepper .fixed) time state (y .stepper .progress) (trimmed (needed (y .stepper .fixed)) (y .lent)) (done-passed _ _ _ _ e)
 
   -- what it leaves
   reset-result : result (reset time state) y ≡ restarted time state (trimmed (needed (y .stepper .fixed)) (y .lent))
   unfolding stepped result called resetOf
   reset-result = guarded-passed _ _ _ _ (done-passed _ _ _ _ e)
 
-  module _ (file : List ℕ) (policy : TimeDifferencePolicy) (b : Born file policy y) (work : List Float) (pivots : List ℕ) (lw : length work ≡ length (y .lent .work)) (lp : length pivots ≡ length (y .lent .pivots)) where
+  module _ (file : List ℕ) (policy : TimeDifferencePolicy) (b : FromMaking file policy y) (work : List Float) (pivots : List ℕ) (lw : length work ≡ length (y .lent .work)) (lp : length pivots ≡ length (y .lent .pivots)) where
     -- the memory that the new one is lent, and what the new one has fixed
     abbrev lent : Lent
     lent = lending state work pivots
@@ -118,7 +118,7 @@ module _ (y : System) (time : Float) (state : List Float) (e : stepped (reset ti
 
     fixed-same : y .stepper .fixed ≡ fixed
     unfolding fixedBy
-    fixed-same = λ i. record { n = sym (tests-tell .size) i; s = b .stages i; policy = b .policy-is i }
+    fixed-same = λ i. record { n = sym (tests-passed .size) i; s = b .stages i; policy = b .policy-is i }
 
     front-same : length (take (needed (y .stepper .fixed)) (y .lent .work)) ≡ length (take (needed fixed) work)
     front-same =
@@ -141,16 +141,16 @@ module _ (y : System) (time : Float) (state : List Float) (e : stepped (reset ti
     new-shape : shapeFits (length state) (stagesOf (tableauOf file)) (length state) (length (take (needed fixed) work)) (length pivots) ≡ true
     unfolding trimmed
     new-shape =
-        let t = tests-tell in
+        let t = tests-passed in
         let old : shapeFits (y .stepper .fixed .n) (y .stepper .fixed .s) (length (y .lent .state)) (length (take (needed (y .stepper .fixed)) (y .lent .work))) (length (y .lent .pivots)) ≡ true =
-            shape-fits _ _ _ _ _ (t .shape)
+        shape-fits _ _ _ _ _ (t .shape)
         in
         cc (old, t .size, t .shape .of-state, front-same, lp, b .stages)
 
     new-passes : firstOf (makingTests file time (trimmed (needed fixed) lent)) ≡ 0
     unfolding trimmed
     new-passes =
-        let t = tests-tell in
+        let t = tests-passed in
         holds-later 12 _ (b .file-accepted)
         (holds-later 1 _ new-shape (holds-later 2 _ (t .finite) (holds-later 2 _ (t .finite-time) (later 3 [] (b .not-hybrid) none))))
 

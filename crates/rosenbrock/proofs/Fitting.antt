@@ -1,19 +1,21 @@
--- The first tests of every call: what they tell of n, s and the lengths that are lent. Assumes nothing.
+-- The first tests of every call: what they tell of n, s, the lengths that are lent and the request. Assumes nothing.
 use Prim.Native.Nat.{ℕ, _≤_}
+use native.Mathlib.Omega.{arith}
 use mathlib.Core.Path.{_≡_}
-use mathlib.Core.Bool.{true, _&&_}
+use mathlib.Core.Bool.{true}
 use mathlib.Core.List.{List, [], _++_}
 use lib.ListN.{length}
 use lib.Dec.{eqb, leb}
 use borrow.Author.Tests.{leb-true, eqb-true, le-leb, eq-eqb}
 use Rattle.float.proofs.Cases.{both, and-left, and-right}
+use Rattle.vector.proofs.Parts.{length-part}
 use Rattle.stepping.specs.Refusals.{Test, firstOf}
 use Rattle.stepping.proofs.Refusals.{none, held, holds-later}
 use Rattle.stages.specs.Layout.{neededWork}
 use Rattle.rosenbrock.specs.declared.Fixed.{Fixed}
 use Rattle.rosenbrock.specs.declared.Progress.{Progress}
 use Rattle.rosenbrock.specs.Requests.{requestFits}
-use Rattle.rosenbrock.specs.Answers.{Lent}
+use Rattle.rosenbrock.specs.Answers.{Lent, candidateOf}
 use Rattle.rosenbrock.specs.Tests.{shapeFits, fitTests}
 
 pub record Shape (n s state work pivots : ℕ) : Type 0 where
@@ -53,10 +55,15 @@ module _ (n s state work pivots : ℕ) where
       (both (le-leb s 8 (h .s-to-8))
       (both (eq-eqb state n (h .of-state)) (both (eq-eqb work (neededWork n s) (h .of-work)) (eq-eqb pivots n (h .of-pivots)))))))
 
--- the record and what is lent with it fit each other
+-- of what is lent to a record
 abbrev pub LentShape : Fixed → Lent → Type 0
 LentShape fx m = Shape (fx .n) (fx .s) (length (m .state)) (length (m .work)) (length (m .pivots))
 
+pub candidate-length : (fx : Fixed) (m : Lent) → LentShape fx m → length (candidateOf fx m) ≡ fx .n
+unfolding candidateOf neededWork
+candidate-length fx m h = let e = h .of-work in length-part 0 (fx .n) (m .work) (omega arith)
+
+-- the record and what is lent with it fit each other
 pub record Fits (fx : Fixed) (x : Progress) (m : Lent) : Type 0 where
   pub shape : LentShape fx m
   pub request : requestFits (fx .n) (fx .s) (x .request) (x .stage) ≡ true

@@ -5,7 +5,7 @@ use mathlib.Core.List.{List}
 use Rattle.stepping.specs.Refusals.{Test, firstOf}
 use Rattle.stepping.proofs.Refusals.{either-way, is-answered}
 use Rattle.rosenbrock.specs.declared.Progress.{Progress}
-use Rattle.rosenbrock.specs.Answers.{Lent, refused, done}
+use Rattle.rosenbrock.specs.Answers.{Lent, done}
 use Rattle.rosenbrock.specs.Calls.{Out, refusal, guarded}
 
 module _ (tests : List Test) (x : Progress) (m : Lent) (o : Out) where

@@ -50,7 +50,7 @@ module _ (fx : Fixed) (x : Progress) (m : Lent) where
   unfolding failed
   failed-keeps = record { of-work = refl; of-pivots = refl }
 
-  accepted-keeps : OutLong m (accepted fx x m)
+  pub accepted-keeps : OutLong m (accepted fx x m)
   unfolding accepted
   accepted-keeps = record { of-work = refl; of-pivots = refl }
 
@@ -58,13 +58,9 @@ module _ (fx : Fixed) (x : Progress) (m : Lent) where
   unfolding rejected
   rejected-keeps = record { of-work = refl; of-pivots = refl }
 
-  injected-keeps : (derivative : List Float) → OutLong m (injected fx derivative x m)
+  pub injected-keeps : (derivative : List Float) → OutLong m (injected fx derivative x m)
   unfolding injected
   injected-keeps derivative = record { of-work = length-puts (m .work) _ _ (fx .n); of-pivots = refl }
-
-  restarted-keeps : (time : Float) (state : List Float) → OutLong m (restarted time state m)
-  unfolding restarted cleared
-  restarted-keeps time state = record { of-work = length-replicate _ _; of-pivots = length-replicate _ _ }
 
   pub resumed-keeps : (file : List ℕ) (a : Ask) (values : List Float) → OutLong m (settle fx x m (resume (givenBy fx file x m) a values (scratchBy nothingCounted x m)))
   resumed-keeps file a values = settle-keeps _ (resume-keeps _ _ _ a values _ (scratch-long _))
@@ -73,7 +69,11 @@ module _ (fx : Fixed) (x : Progress) (m : Lent) where
   unfolding answered
   answered-keeps q = record { of-work = refl; of-pivots = refl }
 
--- the record as an attempt opens says nothing of the memory
+pub restarted-keeps : (time : Float) (state : List Float) (m : Lent) → OutLong m (restarted time state m)
+unfolding restarted cleared
+restarted-keeps time state m = record { of-work = length-replicate _ _; of-pivots = length-replicate _ _ }
+
+-- ---- every call
 attemptBy-keeps : (fx : Fixed) (file : List ℕ) (step : Float) (jacobian partial : Bool) (x : Progress) (m : Lent) → OutLong m (attemptBy fx file step jacobian partial x m)
 unfolding attemptBy
 attemptBy-keeps fx file step jacobian partial x m = guarded-keeps fx x m _ _ (opened-keeps fx (opening step jacobian partial x) m file)
@@ -92,5 +92,5 @@ called-keeps fx fail x m = guarded-keeps fx x m _ _ (failed-keeps fx x m)
 called-keeps fx (accept f) x m = guarded-keeps fx x m _ _ (accepted-keeps fx x m)
 called-keeps fx (reject f) x m = guarded-keeps fx x m _ _ (rejected-keeps fx x m)
 called-keeps fx (inject-derivative derivative) x m = guarded-keeps fx x m _ _ (injected-keeps fx x m derivative)
-called-keeps fx (reset time state) x m = guarded-keeps fx x m _ _ (restarted-keeps fx x m time state)
+called-keeps fx (reset time state) x m = guarded-keeps fx x m _ _ (restarted-keeps time state m)
 called-keeps fx (read q) x m = guarded-keeps fx x m _ _ (answered-keeps fx x m q)

@@ -83,6 +83,10 @@ module _ (time step : Float) where
   unfolding checkedTime unlessRefused
   reached-tests {r} {x} e h = eqb-true (firstOf (timeTests time step)) 0 (at-only _ _ _ x (sym e ∙ h))
 
+  pub tests-reached : firstOf (timeTests time step) ≡ 0 → checkedTime time step ≡ checked.At (time ⊕ step)
+  unfolding checkedTime
+  tests-reached e = sym (is-answered checked.Refused e refl)
+
   pub refused-tests : {r : Checked} {k : ℕ} → r ≡ checkedTime time step → r ≡ checked.Refused k → (firstOf (timeTests time step) ≡ k) × (k ≡ 0 → ⊥)
   unfolding checkedTime unlessRefused
   refused-tests {r} {k} e h =
