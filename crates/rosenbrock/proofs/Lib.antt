@@ -6,3 +6,5 @@ pub mod Memory
 pub mod Readers
 pub mod Fitting
 pub mod Passed
+mod Files
+mod Shapes

@@ -11,7 +11,10 @@ ghost use Rattle.attempts.specs.Attempt.{wanted};
 ghost use Rattle.rosenbrock.specs.Requests.{askOf, askNumber, askStage, requestAfter, stageAfter, requestFits};
 ghost use Rattle.rosenbrock.specs.Tests.{shapeFits, sizeTests, fileTests, pivotsUnfit};
 ghost use Rattle.rosenbrock.specs.Stepper.{oneMore, tallied};
-use attempts::{Ask, Counted, Ending, Memo};
+use attempts::Ask;
+use attempts::Counted;
+use attempts::Ending;
+use attempts::Memo;
 use time_difference::TimeDifferencePolicy;
 
 // What the making fixed: components, stages, and how the time partial is probed.
@@ -214,7 +217,10 @@ fn tallied(counted: Counted, statistics: StepStatistics) -> StepStatistics
     let rhs_evaluations = one_more(counted.rhs_evaluations, statistics.rhs_evaluations);
     let accepted_steps = one_more(counted.accepted_steps, statistics.accepted_steps);
     let rejected_steps = one_more(counted.rejected_steps, statistics.rejected_steps);
-    let jacobian_evaluations = one_more(counted.jacobian_evaluations, statistics.jacobian_evaluations);
+    let jacobian_evaluations = one_more(
+        counted.jacobian_evaluations,
+        statistics.jacobian_evaluations,
+    );
     let factorizations = one_more(counted.factorizations, statistics.factorizations);
     let linear_solves = one_more(counted.linear_solves, statistics.linear_solves);
     StepStatistics {

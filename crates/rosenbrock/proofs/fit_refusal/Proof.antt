@@ -1,5 +1,6 @@
 -- `rosenbrock::fit_refusal` meets its contract: test by test. Assumes nothing.
 use borrow.Author.Needs.{needs}
+use Rattle.rosenbrock.specs.Requests.{requestFits}
 use Rattle.stepping.proofs.Refusals.{first-fails, second-fails, none-fails}
 use Rattle.rosenbrock.proofs.fit_refusal.Statement.{statement}
 use Rattle.rosenbrock.proofs.fit_refusal.Tie as tie
@@ -8,7 +9,7 @@ shape-fits-requires : tie.Need-shape-fits-requires
 shape-fits-requires c κs = search needs
 
 returns : tie.Need-returns
-returns c = first-fails 1 1 _ _ (c .before .shape-fits .ensures) (c .if1 .taken)
+returns c = first-fails 1 1 _ (let s = c .before .before .args in requestFits (s .n) (s .s) (s .request) (s .stage)) (c .before .shape-fits .ensures) (c .if1 .taken)
 
 request-fits-requires : tie.Need-request-fits-requires
 request-fits-requires c κs = search needs

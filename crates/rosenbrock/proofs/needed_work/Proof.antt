@@ -11,9 +11,6 @@ use Rattle.rosenbrock.proofs.needed_work.Tie as tie
 products : (c : tie.Start) → (c .args .n * c .args .n ≤ 32 * 32) × (c .args .s * c .args .n ≤ 8 * 32)
 products c = (mul-le-mul (c .pre .0) (c .pre .0), mul-le-mul (c .pre .1) (c .pre .0))
 
-products : (c : tie.Start) → (c .args .n * c .args .n ≤ 32 * 32) × (c .args .s * c .args .n ≤ 8 * 32)
-products c = (mul-le-mul (c .pre .0) (c .pre .0), mul-le-mul (c .pre .1) (c .pre .0))
-
 mul-result : tie.Need-mul-result
 mul-result c = search needs
 

@@ -1,41 +1,40 @@
+-- `rosenbrock::shape_fits` meets its contract: test by test. Assumes nothing.
 use borrow.Author.Needs.{needs}
+use Prim.Native.Nat.{_<_, _≤_}
+use mathlib.Core.Path.{_≡_, ap, _∙_}
+use native.Mathlib.Omega.{arith}
+use Rattle.stages.specs.Layout.{neededWork}
+use Rattle.rosenbrock.proofs.Shapes.{n-low, n-high, s-low, s-high, state-off, work-short, pivots-left}
 use Rattle.rosenbrock.proofs.shape_fits.Statement.{statement}
 use Rattle.rosenbrock.proofs.shape_fits.Tie as tie
-use Rattle.rosenbrock.proofs.shape_fits.Reads as reads
-use Rattle.rosenbrock.proofs.shape_fits.Lts as lts
-use Rattle.rosenbrock.proofs.needed_work.Reads as needed-work-reads
 
--- src/lib.rt:72:9
 returns : tie.Need-returns
-returns c = ?
+returns c = n-low _ _ _ _ _ (c .if1 .taken)
 
--- src/lib.rt:75:9
 returns-2 : tie.Need-returns-2
-returns-2 c = ?
+returns-2 c = n-high _ _ _ _ _ (omega arith) (c .if2 .taken)
 
--- src/lib.rt:78:9
 returns-3 : tie.Need-returns-3
-returns-3 c = ?
+returns-3 c = s-low _ _ _ _ _ (omega arith) (omega arith) (c .if3 .taken)
 
--- src/lib.rt:81:9
 returns-4 : tie.Need-returns-4
-returns-4 c = ?
+returns-4 c = s-high _ _ _ _ _ (omega arith) (omega arith) (omega arith) (c .if4 .taken)
 
--- src/lib.rt:84:9
 returns-5 : tie.Need-returns-5
-returns-5 c = ?
+returns-5 c = state-off _ _ _ _ _ (omega arith) (omega arith) (omega arith) (omega arith) (c .if5 .taken)
 
--- src/lib.rt:86:15
 needed-work-requires : tie.Need-needed-work-requires
 needed-work-requires c κs = search needs
 
--- src/lib.rt:87:9
 returns-6 : tie.Need-returns-6
-returns-6 c = ?
+returns-6 c =
+    let h = c .before .needed-work .ensures in
+    work-short _ _ _ _ _ (omega arith) (omega arith) (omega arith) (omega arith) (omega arith) (omega arith)
 
--- src/lib.rt:68:1
 returns-7 : tie.Need-returns-7
-returns-7 c = ?
+returns-7 c =
+    let h = c .before .needed-work .ensures in
+    pivots-left _ _ _ _ _ (omega arith) (omega arith) (omega arith) (omega arith) (omega arith) (omega arith)
 
 pub shape-fits-spec : {M : Type 1} → statement M
 shape-fits-spec =
