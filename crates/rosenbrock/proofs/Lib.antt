@@ -6,5 +6,6 @@ pub mod Memory
 pub mod Readers
 pub mod Fitting
 pub mod Passed
+pub mod Lines
 mod Files
 mod Shapes
