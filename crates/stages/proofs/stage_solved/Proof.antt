@@ -1,30 +1,29 @@
+-- `stages::stage_solved` meets its contract. Assumes nothing.
+use mathlib.Core.Path.{sym}
+use denote.Ref.{now}
 use borrow.Author.Needs.{needs}
+use lib.Seq.{length-take-le}
 use Rattle.stages.proofs.stage_solved.Statement.{statement}
 use Rattle.stages.proofs.stage_solved.Tie as tie
-use Rattle.stages.proofs.stage_solved.Reads as reads
-use Rattle.stages.proofs.stage_solved.Lts as lts
-use Rattle.stages.proofs.solve_stage.Reads as solve-stage-reads
 
--- src/lib.rt:149:37
 array-borrow-prefix-rhs : tie.Need-array-borrow-prefix-rhs
 array-borrow-prefix-rhs c = search needs
 
--- src/lib.rt:149:37
 slice-aggregate-solve-stage : tie.Need-slice-aggregate-solve-stage
-slice-aggregate-solve-stage c = ?
+slice-aggregate-solve-stage c =
+    let s = c .before .before .before .before .before in
+    sym (length-take-le (s .args .n) _ (s .pre .0 .small))
 
--- src/lib.rt:149:5
 solve-stage-requires : tie.Need-solve-stage-requires
-solve-stage-requires c κs = ?
+solve-stage-requires c κs =
+    let s = c .before .before .before .before .before in
+    (s .pre .0, s .pre .1, s .pre .2, length-take-le (s .args .n) _ (s .pre .0 .small))
 
--- src/lib.rt:144:1
 same-length : tie.Need-same-length
 same-length c = search needs
 
--- src/lib.rt:144:1
 returns : tie.Need-returns
-returns c = search needs
-
+returns c = c .before .before .before .solve-stage .ensures
 pub stage-solved-spec : {M : Type 1} → statement M
 stage-solved-spec =
     tie.close
