@@ -148,3 +148,91 @@ pub fn stage_solved(work: &mut [f64], file: &[u8], pivots: &[usize], n: usize, s
     let mut rhs = [0.0; 32];
     solve_stage(work, file, pivots, &mut rhs[..n], n, s, i, step);
 }
+
+// How much of stage i goes into the error.
+fn error_weight(file: &[u8], i: usize) -> f64
+    ensures { λ r. ⌜ r ≡ errorWeight (tableauOf (now (file .entry))) i ⌝ }
+{
+    if tableau::btilde_present(file) {
+        return tableau::btilde(file, i);
+    }
+    0.0
+}
+
+// Adds b times the stage at `stage` to the candidate, and e times it to the error.
+fn add_to_both(work: &mut [f64], candidate: usize, error: usize, stage: usize, n: usize, b: f64, e: f64)
+    requires { ⌜ (candidate + n ≤ error) × (error + n ≤ stage) × (stage + n ≤ length (now work)) ⌝ }
+    ensures { λ _. ⌜ now (work .exit)
+        ≡ puts (puts (now (work .entry)) candidate (λ k. component (now (work .entry)) candidate k ⊕ b ⊗ component (now (work .entry)) stage k) n)
+          error (λ k. component (now (work .entry)) error k ⊕ e ⊗ component (now (work .entry)) stage k) n ⌝ }
+{
+    let mut k = 0;
+    while k < n {
+        let x = work[stage + k];
+        let y = work[error + k] + e * x;
+        work[candidate + k] = work[candidate + k] + b * x;
+        work[error + k] = y;
+        k += 1;
+    }
+}
+
+// Stage i goes into the candidate and the error, with b and btilde that are 0 too.
+pub fn add_stage(work: &mut [f64], file: &[u8], n: usize, s: usize, i: usize)
+    requires { ⌜ Room n s (length (now work)) × Stage n s i ⌝ }
+    ensures { λ _. ⌜ now (work .exit) ≡ withStageAdded n (tableauOf (now (file .entry))) i (now (work .entry)) ⌝ }
+{
+    let stage = 8 * n + 2 * (n * n) + i * n;
+    let b = tableau::b(file, i);
+    let e = error_weight(file, i);
+    add_to_both(work, 0, n, stage, n, b, e);
+}
+
+// An entry of the identity.
+fn unit(row: usize, column: usize) -> f64
+    ensures { λ r. ⌜ r ≡ cond (eqb row column) 𝟏 𝟎 ⌝ }
+{
+    if row == column {
+        return 1.0;
+    }
+    0.0
+}
+
+// A row of the identity less c times the vector at `from`.
+fn matrix_row(work: &mut [f64], to: usize, from: usize, n: usize, row: usize, c: f64)
+    requires { ⌜ (from + n ≤ to) × (to + n ≤ length (now work)) ⌝ }
+    ensures { λ _. ⌜ now (work .exit) ≡ puts (now (work .entry)) to (λ j. cond (eqb row j) 𝟏 𝟎 ⊖ c ⊗ component (now (work .entry)) from j) n ⌝ }
+{
+    let mut column = 0;
+    while column < n {
+        work[to + column] = unit(row, column) - c * work[from + column];
+        column += 1;
+    }
+}
+
+// The matrix of the stages, where its factors will be.
+pub fn system_matrix(work: &mut [f64], file: &[u8], n: usize, s: usize, step: f64)
+    requires { ⌜ Room n s (length (now work)) ⌝ }
+    ensures { λ _. ⌜ now (work .exit) ≡ withMatrix n (tableauOf (now (file .entry))) step (now (work .entry)) ⌝ }
+{
+    let c = step * tableau::gamma(file);
+    let mut from = 8 * n;
+    let mut to = from + n * n;
+    let mut row = 0;
+    while row < n {
+        matrix_row(work, to, from, n, row, c);
+        from += n;
+        to += n;
+        row += 1;
+    }
+}
+
+// Factors the matrix in place, and lists the rows of its pivots.
+pub fn factorize_matrix(work: &mut [f64], pivots: &mut [usize], n: usize, s: usize) -> Factorization
+    requires { ⌜ Room n s (length (now work)) × (length (now pivots) ≡ n) ⌝ }
+    ensures { λ r. ⌜ (r ≡ eliminationIn n (now (pivots .entry)) (now (work .entry)) .answer) × (now (work .exit) ≡ withFactors n (now (pivots .entry)) (now (work .entry)))
+        × (now (pivots .exit) ≡ eliminationIn n (now (pivots .entry)) (now (work .entry)) .pivots) ⌝ }
+{
+    let factors = 8 * n + n * n;
+    let stages = factors + n * n;
+    linear::factorize_raw(&mut work[factors..stages], pivots, n)
+}
