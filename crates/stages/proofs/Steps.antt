@@ -12,7 +12,7 @@ use borrow.Rule.Slice.PartMut.{putMid}
 use Rattle.float.specs.Operators.{_⊕_, _⊖_, _⊗_, _⊘_, 𝟎, 𝟏}
 use Rattle.vector.specs.Lists.{el, table}
 use Rattle.vector.specs.Parts.{part, puts}
-use Rattle.vector.specs.Matrices.{entry, rows}
+use Rattle.vector.specs.Matrices.{entry}
 use Rattle.vector.proofs.Lists.{table-at, table-same}
 use Rattle.vector.proofs.Stores.{puts-left, puts-held, puts-same, puts-again, puts-join, puts-both, mid-puts}
 use Rattle.vector.proofs.Matrices.{row-inside, row-next, rows-at}
@@ -23,7 +23,7 @@ use Rattle.linear.specs.Substitution.{solution}
 use Rattle.linear.specs.Calls.{Outcome, outcome, rawOf}
 use Rattle.stages.specs.Layout.{candidateAt, errorAt, stageStateAt, timePartialAt, linearRhsAt, jacobianAt, factorsAt, stageAt, rhsStageAt}
 use Rattle.stages.specs.Method.{plusMultiples, stageState, rightHandSide, stageMatrix, stageValue, errorWeight}
-use Rattle.stages.specs.Memory.{component, stageIn, withStageState, withRightHandSide, withSolution, withStage, withStageSolved, withAdded, withStageAdded, withMatrix, eliminationIn, withFactors}
+use Rattle.stages.specs.Memory.{component, stageIn, withStageState, withRightHandSide, withSolution, withStage, withStageSolved, withAdded, withStageAdded, eliminationIn, withFactors}
 use Rattle.stages.proofs.Sums.{sum-same}
 
 -- the state of stage i: the accepted state is copied, then the multiples of the stages are added
@@ -158,7 +158,8 @@ pub factored-chain : (n : ℕ) (pivots : List ℕ) (w : List Float) {k : ℕ} {r
     → (r ≡ eliminationIn n pivots w .answer) × (putMid (factorsAt n) k w y ≡ withFactors n pivots w) × (p ≡ eliminationIn n pivots w .pivots)
 unfolding withFactors
 factored-chain n pivots w {k} {r} {y} {p} e h l q =
-    let o : outcome r y p ≡ eliminationIn n pivots w = q ∙ ap (λ (z : ℕ). rawOf n (part (factorsAt n) z w) pivots) e in
-    (ap (λ (z : Outcome). z .answer) o,
-    mid-puts nan (factorsAt n) k w y (omega arith) l ∙ ap (puts w (factorsAt n) (el y)) e ∙ ap (λ (z : Outcome). puts w (factorsAt n) (el (z .matrix)) (n * n)) o,
-    ap (λ (z : Outcome). z .pivots) o)
+    let o : outcome r y p ≡ eliminationIn n pivots w = q ∙ ap (λ (z : ℕ). rawOf n (part (factorsAt n) z w) pivots) e in (
+      ap (λ (z : Outcome). z .answer) o,
+      mid-puts nan (factorsAt n) k w y (omega arith) l ∙ ap (puts w (factorsAt n) (el y)) e ∙ ap (λ (z : Outcome). puts w (factorsAt n) (el (z .matrix)) (n * n)) o,
+      ap (λ (z : Outcome). z .pivots) o,
+    )

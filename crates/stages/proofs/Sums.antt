@@ -5,7 +5,7 @@ use native.Mathlib.Omega.{arith}
 use mathlib.Core.Path.{_≡_, refl, sym, ap, _∙_}
 use mathlib.Core.Bool.{true, false}
 use mathlib.Core.List.{List, _++_}
-use mathlib.Core.Logic.{inl, inr}
+use mathlib.Core.Logic.{inr}
 use lib.ListN.{length, set, drop}
 use lib.Ieee.{Float, nan, eq, ne}
 use Rattle.float.specs.Operators.{_⊕_, _⊗_, 𝟎}

@@ -10,7 +10,7 @@ ghost use Rattle.vector.specs.Lists.{el, table};
 ghost use Rattle.vector.specs.Parts.{puts};
 ghost use Rattle.tableau.specs.Tableau.{couplingOf};
 ghost use Rattle.tableau.specs.File.{tableauOf};
-ghost use Rattle.stages.specs.Layout.{Room, Stage, PivotRows, stageStateAt, timePartialAt, linearRhsAt, rhsStageAt};
+ghost use Rattle.stages.specs.Layout.{Room, Stage, PivotRows, stageStateAt, timePartialAt, rhsStageAt};
 ghost use Rattle.stages.specs.Method.{plusMultiple, plusMultiples, stageState, rightHandSide, errorWeight};
 ghost use Rattle.stages.specs.Memory.{component, stageIn, withStageState, withStageSolved, withStageAdded, withMatrix, eliminationIn, withFactors};
 use linear::Factorization;
@@ -73,7 +73,15 @@ fn add_multiple(x: &mut [f64], work: &[f64], from: usize, c: f64)
 }
 
 // Adds coupling[i][j] / step times stage j to the right-hand side, for each j below i.
-fn add_couplings(rhs: &mut [f64], work: &[f64], file: &[u8], n: usize, s: usize, i: usize, step: f64)
+fn add_couplings(
+    rhs: &mut [f64],
+    work: &[f64],
+    file: &[u8],
+    n: usize,
+    s: usize,
+    i: usize,
+    step: f64,
+)
     requires { ⌜ Room n s (length (now work)) × Stage n s i × (length (now rhs) ≡ n) ⌝ }
     ensures { λ _. ⌜ now (rhs .exit)
         ≡ table (λ k. plusMultiples (λ j. couplingOf (tableauOf (now (file .entry))) i j ⊘ step) (λ j. stageIn n (now (work .entry)) j k) (el (now (rhs .entry)) k) i) n ⌝ }
@@ -102,7 +110,15 @@ fn start_right_hand_side(rhs: &mut [f64], work: &[f64], derivative: usize, parti
 }
 
 // The right-hand side of stage i.
-fn right_hand_side(rhs: &mut [f64], work: &[f64], file: &[u8], n: usize, s: usize, i: usize, step: f64)
+fn right_hand_side(
+    rhs: &mut [f64],
+    work: &[f64],
+    file: &[u8],
+    n: usize,
+    s: usize,
+    i: usize,
+    step: f64,
+)
     requires { ⌜ Room n s (length (now work)) × Stage n s i × (length (now rhs) ≡ n) ⌝ }
     ensures { λ _. ⌜ now (rhs .exit)
         ≡ table (rightHandSide (tableauOf (now (file .entry))) step i (stageIn n (now (work .entry))) (component (now (work .entry)) (rhsStageAt n s i)) (component (now (work .entry)) (timePartialAt n))) n ⌝ }
@@ -128,7 +144,16 @@ fn store_stage(work: &mut [f64], solution: &[f64], rhs: usize, stage: usize, n: 
 }
 
 // The system is solved in rhs, apart from the work that holds its factors.
-fn solve_stage(work: &mut [f64], file: &[u8], pivots: &[usize], rhs: &mut [f64], n: usize, s: usize, i: usize, step: f64)
+fn solve_stage(
+    work: &mut [f64],
+    file: &[u8],
+    pivots: &[usize],
+    rhs: &mut [f64],
+    n: usize,
+    s: usize,
+    i: usize,
+    step: f64,
+)
     requires { ⌜ Room n s (length (now work)) × Stage n s i × PivotRows n (now pivots) × (length (now rhs) ≡ n) ⌝ }
     ensures { λ _. ⌜ now (work .exit) ≡ withStageSolved n s (tableauOf (now (file .entry))) (now (pivots .entry)) i step (now (work .entry)) ⌝ }
 {
@@ -141,7 +166,15 @@ fn solve_stage(work: &mut [f64], file: &[u8], pivots: &[usize], rhs: &mut [f64],
 }
 
 // Stage i, from its derivative: its right-hand side is solved and scaled.
-pub fn stage_solved(work: &mut [f64], file: &[u8], pivots: &[usize], n: usize, s: usize, i: usize, step: f64)
+pub fn stage_solved(
+    work: &mut [f64],
+    file: &[u8],
+    pivots: &[usize],
+    n: usize,
+    s: usize,
+    i: usize,
+    step: f64,
+)
     requires { ⌜ Room n s (length (now work)) × Stage n s i × PivotRows n (now pivots) ⌝ }
     ensures { λ _. ⌜ now (work .exit) ≡ withStageSolved n s (tableauOf (now (file .entry))) (now (pivots .entry)) i step (now (work .entry)) ⌝ }
 {
@@ -160,11 +193,19 @@ fn error_weight(file: &[u8], i: usize) -> f64
 }
 
 // Adds b times the stage at `stage` to the candidate, and e times it to the error.
-fn add_to_both(work: &mut [f64], candidate: usize, error: usize, stage: usize, n: usize, b: f64, e: f64)
+fn add_to_both(
+    work: &mut [f64],
+    candidate: usize,
+    error: usize,
+    stage: usize,
+    n: usize,
+    b: f64,
+    e: f64,
+)
     requires { ⌜ (candidate + n ≤ error) × (error + n ≤ stage) × (stage + n ≤ length (now work)) ⌝ }
     ensures { λ _. ⌜ now (work .exit)
         ≡ puts (puts (now (work .entry)) candidate (λ k. component (now (work .entry)) candidate k ⊕ b ⊗ component (now (work .entry)) stage k) n)
-          error (λ k. component (now (work .entry)) error k ⊕ e ⊗ component (now (work .entry)) stage k) n ⌝ }
+        error (λ k. component (now (work .entry)) error k ⊕ e ⊗ component (now (work .entry)) stage k) n ⌝ }
 {
     let mut k = 0;
     while k < n {

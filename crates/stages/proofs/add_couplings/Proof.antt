@@ -1,5 +1,5 @@
 -- `stages::add_couplings` meets its contract: the sums over the stages passed. Assumes nothing.
-use Prim.Native.Nat.{ℕ, _+_, _-_, _*_, _≤_}
+use Prim.Native.Nat.{ℕ, _+_, _-_, _≤_}
 use native.Mathlib.Nat.{zero-mul}
 use native.Mathlib.Omega.{arith}
 use mathlib.Core.Path.{_≡_, refl, ap, _∙_}
@@ -94,6 +94,7 @@ returns c =
     let e : l .j ≡ a .i = omega arith in
     l .inv .3
     ∙ ap (λ (z : ℕ). table (λ k. plusMultiples (λ j. couplingOf (tableauOf (now (a .file))) (a .i) j ⊘ a .step) (λ j. stageIn (a .n) (now (a .work)) j k) (el (now (a .rhs)) k) z) (a .n)) e
+
 pub add-couplings-spec : {M : Type 1} → statement M
 add-couplings-spec =
     tie.close

@@ -1,7 +1,7 @@
 -- `stages::add_multiple` meets its contract: the components passed have their multiple. Assumes nothing.
-use Prim.Native.Nat.{ℕ, _+_, _-_, _≤_}
+use Prim.Native.Nat.{_-_, _≤_}
 use native.Mathlib.Omega.{arith}
-use mathlib.Core.Path.{_≡_, refl, ap, _∙_}
+use mathlib.Core.Path.{_≡_}
 use denote.Ref.{now}
 use borrow.Author.Needs.{needs}
 use mathlib.Core.List.{_++_}
@@ -69,6 +69,7 @@ returns-2 c =
     let l = c .before .loop in
     let a = c .before .before .before .args in
     all-made (λ k. plusMultiple (el (now (a .x)) k) (a .c) (component (now (a .work)) (a .from) k)) (l .k) (now (a .x)) _ (length (now (a .x))) (omega arith) (omega arith) (l .inv .2)
+
 pub add-multiple-spec : {M : Type 1} → statement M
 add-multiple-spec =
     tie.close

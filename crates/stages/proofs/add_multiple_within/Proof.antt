@@ -1,11 +1,10 @@
 -- `stages::add_multiple_within` meets its contract: the components passed have their multiple. Assumes nothing.
-use Prim.Native.Nat.{ℕ, _+_, _-_, _≤_}
+use Prim.Native.Nat.{_-_, _≤_}
 use native.Mathlib.Omega.{arith}
 use mathlib.Core.Path.{_≡_, refl, ap, _∙_}
 use denote.Ref.{now}
 use borrow.Author.Needs.{needs}
 use lib.ListN.{length, length-set}
-use lib.Ieee.{Float}
 use Rattle.vector.specs.Parts.{puts}
 use Rattle.stages.specs.Method.{plusMultiple}
 use Rattle.stages.specs.Memory.{component}
@@ -77,6 +76,7 @@ returns-2 c =
     let a = c .before .before .before .args in
     let e : l .k ≡ a .n = omega arith in
     l .inv .2 ∙ ap (puts (now (a .work)) (a .to) (λ k. plusMultiple (component (now (a .work)) (a .to) k) (a .c) (component (now (a .work)) (a .from) k))) e
+
 pub add-multiple-within-spec : {M : Type 1} → statement M
 add-multiple-within-spec =
     tie.close

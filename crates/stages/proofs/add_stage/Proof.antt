@@ -40,6 +40,7 @@ returns : tie.Need-returns
 returns c =
     let a = c .before .before .before .before .before .before .before .before .args in
     added-chain (a .n) (tableauOf (now (a .file))) (a .i) (now (a .work)) (c .before .before .before .before .before .b .ensures) (c .before .before .before .before .error-weight .ensures) (c .before .before .add-to-both .ensures)
+
 pub add-stage-spec : {M : Type 1} → statement M
 add-stage-spec =
     tie.close

@@ -1,5 +1,5 @@
 -- `stages::add_to_both` meets its contract: both vectors are written side by side. Assumes nothing.
-use Prim.Native.Nat.{ℕ, _+_, _-_, _*_, _≤_}
+use Prim.Native.Nat.{ℕ, _-_, _≤_}
 use native.Mathlib.Omega.{arith}
 use mathlib.Core.Path.{_≡_, refl, ap, _∙_}
 use denote.Ref.{now}
@@ -93,6 +93,7 @@ returns c =
     let q : l .k ≡ a .n = omega arith in
     l .inv .2
     ∙ ap (λ (z : ℕ). puts (puts w (a .candidate) (λ k. component w (a .candidate) k ⊕ a .b ⊗ component w (a .stage) k) z) (a .error) (λ k. component w (a .error) k ⊕ a .e ⊗ component w (a .stage) k) z) q
+
 pub add-to-both-spec : {M : Type 1} → statement M
 add-to-both-spec =
     tie.close

@@ -102,6 +102,7 @@ returns c =
     l .inv .3
     ∙ puts-same w (2 * a .n) (λ k. plusMultiples (aOf t (a .i)) (λ z. stageIn (a .n) w z k) (component w (2 * a .n) k) (l .j)) (stageState t (a .i) (stageIn (a .n) w) (component w (2 * a .n))) (a .n)
     (λ k q. ap (plusMultiples (aOf t (a .i)) (λ z. stageIn (a .n) w z k) (component w (2 * a .n) k)) e)
+
 pub add-to-state-spec : {M : Type 1} → statement M
 add-to-state-spec =
     tie.close

@@ -19,5 +19,6 @@ returns c =
 returns-2 : tie.Need-returns-2
 unfolding errorWeight
 returns-2 c = no _ (sym (c .before .btilde-present .ensures) ∙ c .if1 .left) refl
+
 pub error-weight-spec : {M : Type 1} → statement M
 error-weight-spec = tie.close (tie.spec btilde-present-requires btilde-requires returns returns-2)

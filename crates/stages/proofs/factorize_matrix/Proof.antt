@@ -53,6 +53,7 @@ returns c =
     let k : 8 * n + n * n + n * n - (8 * n + n * n) ≡ n * n = omega arith in
     factored-chain n (now (a .pivots)) (now (a .work)) k (omega arith)
     (f .kept .0 ∙ length-part (8 * n + n * n) (8 * n + n * n + n * n - (8 * n + n * n)) (now (a .work)) (omega arith)) (f .ensures)
+
 pub factorize-matrix-spec : {M : Type 1} → statement M
 factorize-matrix-spec =
     tie.close

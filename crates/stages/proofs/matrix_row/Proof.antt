@@ -1,5 +1,5 @@
 -- `stages::matrix_row` meets its contract: the columns passed are written. Assumes nothing.
-use Prim.Native.Nat.{ℕ, _+_, _-_, _*_, _≤_}
+use Prim.Native.Nat.{ℕ, _-_, _≤_}
 use native.Mathlib.Omega.{arith}
 use mathlib.Core.Path.{_≡_, refl, ap, _∙_}
 use denote.Ref.{now}
@@ -75,6 +75,7 @@ returns c =
     let s = c .before .before .before in
     let q : l .column ≡ s .args .n = omega arith in
     l .inv .2 ∙ ap (puts (now (s .args .work)) (s .args .to) (values s)) q
+
 pub matrix-row-spec : {M : Type 1} → statement M
 matrix-row-spec =
     tie.close

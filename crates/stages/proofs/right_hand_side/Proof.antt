@@ -1,5 +1,4 @@
 -- `stages::right_hand_side` meets its contract. Assumes nothing.
-use native.Mathlib.Omega.{arith}
 use mathlib.Core.Path.{ap}
 use denote.Ref.{now}
 use borrow.Author.Needs.{needs}
@@ -56,6 +55,7 @@ returns c =
     right-chain (a .n) (a .s) (tableauOf (now (a .file))) (a .i) (a .step) (now (a .work)) (s .pre .2)
     (ap (λ (z : Float). a .step ⊗ z) (c .before .before .before .before .before .before .before .before .d .ensures))
     (c .before .before .before .before .before .before .start-right-hand-side .ensures) (c .before .before .add-couplings .ensures)
+
 pub right-hand-side-spec : {M : Type 1} → statement M
 right-hand-side-spec =
     tie.close

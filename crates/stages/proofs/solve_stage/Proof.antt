@@ -1,5 +1,5 @@
 -- `stages::solve_stage` meets its contract. Assumes nothing.
-use Prim.Native.Nat.{ℕ, _+_, _-_, _*_}
+use Prim.Native.Nat.{_+_, _-_, _*_}
 use native.Mathlib.Omega.{arith}
 use mathlib.Core.Path.{_≡_, ap, _∙_}
 use denote.Ref.{now}
@@ -87,6 +87,7 @@ returns c =
     let at : 8 * n + n * n + n * n + a .i * n ≡ stageAt n (a .i) = omega arith in
     solved-chain n (a .s) (tableauOf (now (a .file))) (a .i) (a .step) (now (a .work)) (now (a .pivots)) (omega arith) k at
     (ap (λ (z : Float). a .step ⊗ z) (c .before .before .before .before .before .before .before .before .before .before .before .before .before .before .before .before .gamma .ensures)) (c .before .before .before .before .before .before .before .before .before .before .before .before .before .right-hand-side .ensures) (c .before .before .before .before .before .before .before .solve-factorized .ensures) (c .before .before .store-stage .ensures)
+
 pub solve-stage-spec : {M : Type 1} → statement M
 solve-stage-spec =
     tie.close

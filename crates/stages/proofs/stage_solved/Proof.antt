@@ -1,6 +1,5 @@
 -- `stages::stage_solved` meets its contract. Assumes nothing.
 use mathlib.Core.Path.{sym}
-use denote.Ref.{now}
 use borrow.Author.Needs.{needs}
 use lib.Seq.{length-take-le}
 use Rattle.stages.proofs.stage_solved.Statement.{statement}
@@ -24,6 +23,7 @@ same-length c = search needs
 
 returns : tie.Need-returns
 returns c = c .before .before .before .solve-stage .ensures
+
 pub stage-solved-spec : {M : Type 1} → statement M
 stage-solved-spec =
     tie.close

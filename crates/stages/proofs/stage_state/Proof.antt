@@ -24,6 +24,7 @@ returns c =
     let s = c .before .before .before .before .before .before .before .before .before .before .before in
     let a = s .args in
     state-chain (a .n) (tableauOf (now (a .file))) (now (a .state)) (a .i) (now (a .work)) (omega arith) (s .pre .2) (c .before .before .before .before .before .before .put .ensures) (c .before .before .add-to-state .ensures)
+
 pub stage-state-spec : {M : Type 1} → statement M
 stage-state-spec =
     tie.close (tie.spec mul-put put-requires add-to-state-requires same-length returns)

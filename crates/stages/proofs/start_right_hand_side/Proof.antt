@@ -1,7 +1,7 @@
 -- `stages::start_right_hand_side` meets its contract. Assumes nothing.
-use Prim.Native.Nat.{ℕ, _+_, _-_, _≤_}
+use Prim.Native.Nat.{_-_, _≤_}
 use native.Mathlib.Omega.{arith}
-use mathlib.Core.Path.{_≡_, refl, ap, _∙_}
+use mathlib.Core.Path.{_≡_, refl}
 use denote.Ref.{now}
 use borrow.Author.Needs.{needs}
 use mathlib.Core.List.{_++_}
@@ -69,6 +69,7 @@ returns c =
     let a = c .before .before .args in
     let w = now (a .work) in
     all-made (λ k. component w (a .derivative) k ⊕ a .c ⊗ component w (a .partial) k) (l .k) (now (a .rhs)) _ (length (now (a .rhs))) (omega arith) (omega arith) (l .inv .2)
+
 pub start-right-hand-side-spec : {M : Type 1} → statement M
 start-right-hand-side-spec =
     tie.close

@@ -1,5 +1,5 @@
 -- `stages::store_stage` meets its contract: both vectors are written side by side. Assumes nothing.
-use Prim.Native.Nat.{ℕ, _+_, _-_, _≤_}
+use Prim.Native.Nat.{ℕ, _-_, _≤_}
 use native.Mathlib.Omega.{arith}
 use mathlib.Core.Path.{_≡_, refl, ap, _∙_}
 use denote.Ref.{now}
@@ -70,6 +70,7 @@ returns c =
     let x = now (a .solution) in
     let e : l .k ≡ a .n = omega arith in
     l .inv .2 ∙ ap (λ (k : ℕ). puts (puts (now (a .work)) (a .rhs) (el x) k) (a .stage) (λ z. a .c ⊗ el x z) k) e
+
 pub store-stage-spec : {M : Type 1} → statement M
 store-stage-spec =
     tie.close

@@ -1,7 +1,7 @@
 -- `stages::system_matrix` meets its contract: the rows passed are written. Assumes nothing.
 use Prim.Native.Nat.{ℕ, _+_, _-_, _*_, _≤_}
 use native.Mathlib.Omega.{arith}
-use mathlib.Core.Path.{_≡_, refl, ap, _∙_}
+use mathlib.Core.Path.{_≡_, ap, _∙_}
 use denote.Ref.{now}
 use borrow.Author.Needs.{needs}
 use native.Mathlib.Nat.{zero-mul}
@@ -89,6 +89,7 @@ returns c =
     let l = c .before .loop in
     let q : l .row ≡ a .n = omega arith in
     l .inv .4 ∙ ap (λ (z : ℕ). puts (now (a .work)) (factorsAt (a .n)) (el (stageMatrix (tableauOf (now (a .file))) (a .step) (a .n) (part (jacobianAt (a .n)) (a .n * a .n) (now (a .work))))) (z * a .n)) q
+
 pub system-matrix-spec : {M : Type 1} → statement M
 system-matrix-spec =
     tie.close

@@ -8,5 +8,6 @@ returns c = rw (eq-eqb _ _ (c .if1 .taken))
 
 returns-2 : tie.Need-returns-2
 returns-2 c = rw (ne-eqb _ _ (c .if1 .left))
+
 pub unit-spec : {M : Type 1} → statement M
 unit-spec = tie.close (tie.spec returns returns-2)
