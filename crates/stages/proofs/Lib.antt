@@ -1,2 +1,4 @@
 -- Laws that dependents may cite.
 pub mod Lengths
+pub mod Sums
+pub mod Steps

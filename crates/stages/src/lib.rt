@@ -1,1 +1,279 @@
-// The stages of a Rosenbrock method on the lent work.
+// The stages of a Rosenbrock method on the lent work. The names and the order of the operations are
+// those of rosenbrock.rs; specs/Layout has where each part of the work starts.
+ghost use mathlib.Core.Path.{_≡_};
+ghost use mathlib.Core.Bool.{cond};
+ghost use Prim.Native.Nat.{_+_, _*_, _≤_, _<_};
+ghost use lib.Dec.{eqb};
+ghost use lib.ListN.{length};
+ghost use Rattle.float.specs.Operators.{_⊕_, _⊖_, _⊗_, _⊘_, 𝟎, 𝟏};
+ghost use Rattle.vector.specs.Lists.{el, table};
+ghost use Rattle.vector.specs.Parts.{puts};
+ghost use Rattle.tableau.specs.Tableau.{couplingOf};
+ghost use Rattle.tableau.specs.File.{tableauOf};
+ghost use Rattle.stages.specs.Layout.{Room, Stage, PivotRows, stageStateAt, timePartialAt, rhsStageAt};
+ghost use Rattle.stages.specs.Method.{plusMultiple, plusMultiples, stageState, rightHandSide, errorWeight};
+ghost use Rattle.stages.specs.Memory.{component, stageIn, withStageState, withStageSolved, withStageAdded, withMatrix, eliminationIn, withFactors};
+use linear::Factorization;
+
+// Adds c times the vector at `from` to the one at `to`, unless c is a zero.
+fn add_multiple_within(work: &mut [f64], to: usize, from: usize, n: usize, c: f64)
+    requires { ⌜ (to + n ≤ from) × (from + n ≤ length (now work)) ⌝ }
+    ensures { λ _. ⌜ now (work .exit) ≡ puts (now (work .entry)) to (λ k. plusMultiple (component (now (work .entry)) to k) c (component (now (work .entry)) from k)) n ⌝ }
+{
+    if c == 0.0 {
+        return;
+    }
+    let mut k = 0;
+    while k < n {
+        work[to + k] = work[to + k] + c * work[from + k];
+        k += 1;
+    }
+}
+
+// Adds a[i][j] times stage j to the state of stage i, for each j below i.
+fn add_to_state(work: &mut [f64], file: &[u8], n: usize, s: usize, i: usize)
+    requires { ⌜ Room n s (length (now work)) × Stage n s i ⌝ }
+    ensures { λ _. ⌜ now (work .exit)
+        ≡ puts (now (work .entry)) (stageStateAt n) (stageState (tableauOf (now (file .entry))) i (stageIn n (now (work .entry))) (component (now (work .entry)) (stageStateAt n))) n ⌝ }
+{
+    let row = tableau::a_row(file, i);
+    let to = 2 * n;
+    let mut stage = 8 * n + 2 * (n * n);
+    let mut j = 0;
+    while j < i {
+        let a = tableau::coefficient(file, row + j);
+        add_multiple_within(work, to, stage, n, a);
+        stage += n;
+        j += 1;
+    }
+}
+
+// The state at which stage i is evaluated.
+pub fn stage_state(work: &mut [f64], file: &[u8], state: &[f64], n: usize, s: usize, i: usize)
+    requires { ⌜ Room n s (length (now work)) × Stage n s i × (length (now state) ≡ n) ⌝ }
+    ensures { λ _. ⌜ now (work .exit) ≡ withStageState n (tableauOf (now (file .entry))) (now (state .entry)) i (now (work .entry)) ⌝ }
+{
+    vector::put(work, 2 * n, state);
+    add_to_state(work, file, n, s, i);
+}
+
+// Adds c times the vector at `from` of the work to x, unless c is a zero.
+fn add_multiple(x: &mut [f64], work: &[f64], from: usize, c: f64)
+    requires { ⌜ from + length (now x) ≤ length (now work) ⌝ }
+    ensures { λ _. ⌜ now (x .exit) ≡ table (λ k. plusMultiple (el (now (x .entry)) k) c (component (now (work .entry)) from k)) (length (now (x .entry))) ⌝ }
+{
+    if c == 0.0 {
+        return;
+    }
+    let mut k = 0;
+    while k < x.len() {
+        x[k] = x[k] + c * work[from + k];
+        k += 1;
+    }
+}
+
+// Adds coupling[i][j] / step times stage j to the right-hand side, for each j below i.
+fn add_couplings(
+    rhs: &mut [f64],
+    work: &[f64],
+    file: &[u8],
+    n: usize,
+    s: usize,
+    i: usize,
+    step: f64,
+)
+    requires { ⌜ Room n s (length (now work)) × Stage n s i × (length (now rhs) ≡ n) ⌝ }
+    ensures { λ _. ⌜ now (rhs .exit)
+        ≡ table (λ k. plusMultiples (λ j. couplingOf (tableauOf (now (file .entry))) i j ⊘ step) (λ j. stageIn n (now (work .entry)) j k) (el (now (rhs .entry)) k) i) n ⌝ }
+{
+    let row = tableau::coupling_row(file, i);
+    let mut stage = 8 * n + 2 * (n * n);
+    let mut j = 0;
+    while j < i {
+        let c = tableau::coefficient(file, row + j) / step;
+        add_multiple(rhs, work, stage, c);
+        stage += n;
+        j += 1;
+    }
+}
+
+// The derivative of a stage and c times the time partial, from their places in the work.
+fn start_right_hand_side(rhs: &mut [f64], work: &[f64], derivative: usize, partial: usize, c: f64)
+    requires { ⌜ (derivative + length (now rhs) ≤ length (now work)) × (partial + length (now rhs) ≤ length (now work)) ⌝ }
+    ensures { λ _. ⌜ now (rhs .exit) ≡ table (λ k. component (now (work .entry)) derivative k ⊕ c ⊗ component (now (work .entry)) partial k) (length (now (rhs .entry))) ⌝ }
+{
+    let mut k = 0;
+    while k < rhs.len() {
+        rhs[k] = work[derivative + k] + c * work[partial + k];
+        k += 1;
+    }
+}
+
+// The right-hand side of stage i.
+fn right_hand_side(
+    rhs: &mut [f64],
+    work: &[f64],
+    file: &[u8],
+    n: usize,
+    s: usize,
+    i: usize,
+    step: f64,
+)
+    requires { ⌜ Room n s (length (now work)) × Stage n s i × (length (now rhs) ≡ n) ⌝ }
+    ensures { λ _. ⌜ now (rhs .exit)
+        ≡ table (rightHandSide (tableauOf (now (file .entry))) step i (stageIn n (now (work .entry))) (component (now (work .entry)) (rhsStageAt n s i)) (component (now (work .entry)) (timePartialAt n))) n ⌝ }
+{
+    let derivative = 8 * n + 2 * (n * n) + s * n + i * n;
+    let d = tableau::d(file, i);
+    start_right_hand_side(rhs, work, derivative, 4 * n, step * d);
+    add_couplings(rhs, work, file, n, s, i, step);
+}
+
+// Stores a solution, and c times it as the stage at `stage`.
+fn store_stage(work: &mut [f64], solution: &[f64], rhs: usize, stage: usize, n: usize, c: f64)
+    requires { ⌜ (length (now solution) ≡ n) × (rhs + n ≤ stage) × (stage + n ≤ length (now work)) ⌝ }
+    ensures { λ _. ⌜ now (work .exit) ≡ puts (puts (now (work .entry)) rhs (el (now (solution .entry))) n) stage (λ k. c ⊗ el (now (solution .entry)) k) n ⌝ }
+{
+    let mut k = 0;
+    while k < n {
+        let x = solution[k];
+        work[rhs + k] = x;
+        work[stage + k] = c * x;
+        k += 1;
+    }
+}
+
+// The system is solved in rhs, apart from the work that holds its factors.
+fn solve_stage(
+    work: &mut [f64],
+    file: &[u8],
+    pivots: &[usize],
+    rhs: &mut [f64],
+    n: usize,
+    s: usize,
+    i: usize,
+    step: f64,
+)
+    requires { ⌜ Room n s (length (now work)) × Stage n s i × PivotRows n (now pivots) × (length (now rhs) ≡ n) ⌝ }
+    ensures { λ _. ⌜ now (work .exit) ≡ withStageSolved n s (tableauOf (now (file .entry))) (now (pivots .entry)) i step (now (work .entry)) ⌝ }
+{
+    let factors = 8 * n + n * n;
+    let stages = factors + n * n;
+    let gamma = tableau::gamma(file);
+    right_hand_side(rhs, work, file, n, s, i, step);
+    linear::solve_factorized(&work[factors..stages], pivots, rhs, n);
+    store_stage(work, rhs, 7 * n, stages + i * n, n, step * gamma);
+}
+
+// Stage i, from its derivative: its right-hand side is solved and scaled.
+pub fn stage_solved(
+    work: &mut [f64],
+    file: &[u8],
+    pivots: &[usize],
+    n: usize,
+    s: usize,
+    i: usize,
+    step: f64,
+)
+    requires { ⌜ Room n s (length (now work)) × Stage n s i × PivotRows n (now pivots) ⌝ }
+    ensures { λ _. ⌜ now (work .exit) ≡ withStageSolved n s (tableauOf (now (file .entry))) (now (pivots .entry)) i step (now (work .entry)) ⌝ }
+{
+    let mut rhs = [0.0; 32];
+    solve_stage(work, file, pivots, &mut rhs[..n], n, s, i, step);
+}
+
+// How much of stage i goes into the error.
+fn error_weight(file: &[u8], i: usize) -> f64
+    ensures { λ r. ⌜ r ≡ errorWeight (tableauOf (now (file .entry))) i ⌝ }
+{
+    if tableau::btilde_present(file) {
+        return tableau::btilde(file, i);
+    }
+    0.0
+}
+
+// Adds b times the stage at `stage` to the candidate, and e times it to the error.
+fn add_to_both(
+    work: &mut [f64],
+    candidate: usize,
+    error: usize,
+    stage: usize,
+    n: usize,
+    b: f64,
+    e: f64,
+)
+    requires { ⌜ (candidate + n ≤ error) × (error + n ≤ stage) × (stage + n ≤ length (now work)) ⌝ }
+    ensures { λ _. ⌜ now (work .exit)
+        ≡ puts (puts (now (work .entry)) candidate (λ k. component (now (work .entry)) candidate k ⊕ b ⊗ component (now (work .entry)) stage k) n)
+        error (λ k. component (now (work .entry)) error k ⊕ e ⊗ component (now (work .entry)) stage k) n ⌝ }
+{
+    let mut k = 0;
+    while k < n {
+        let x = work[stage + k];
+        let y = work[error + k] + e * x;
+        work[candidate + k] = work[candidate + k] + b * x;
+        work[error + k] = y;
+        k += 1;
+    }
+}
+
+// Stage i goes into the candidate and the error, with b and btilde that are 0 too.
+pub fn add_stage(work: &mut [f64], file: &[u8], n: usize, s: usize, i: usize)
+    requires { ⌜ Room n s (length (now work)) × Stage n s i ⌝ }
+    ensures { λ _. ⌜ now (work .exit) ≡ withStageAdded n (tableauOf (now (file .entry))) i (now (work .entry)) ⌝ }
+{
+    let stage = 8 * n + 2 * (n * n) + i * n;
+    let b = tableau::b(file, i);
+    let e = error_weight(file, i);
+    add_to_both(work, 0, n, stage, n, b, e);
+}
+
+// An entry of the identity.
+fn unit(row: usize, column: usize) -> f64
+    ensures { λ r. ⌜ r ≡ cond (eqb row column) 𝟏 𝟎 ⌝ }
+{
+    if row == column {
+        return 1.0;
+    }
+    0.0
+}
+
+// A row of the identity less c times the vector at `from`.
+fn matrix_row(work: &mut [f64], to: usize, from: usize, n: usize, row: usize, c: f64)
+    requires { ⌜ (from + n ≤ to) × (to + n ≤ length (now work)) ⌝ }
+    ensures { λ _. ⌜ now (work .exit) ≡ puts (now (work .entry)) to (λ j. cond (eqb row j) 𝟏 𝟎 ⊖ c ⊗ component (now (work .entry)) from j) n ⌝ }
+{
+    let mut column = 0;
+    while column < n {
+        work[to + column] = unit(row, column) - c * work[from + column];
+        column += 1;
+    }
+}
+
+// The matrix of the stages, where its factors will be.
+pub fn system_matrix(work: &mut [f64], file: &[u8], n: usize, s: usize, step: f64)
+    requires { ⌜ Room n s (length (now work)) ⌝ }
+    ensures { λ _. ⌜ now (work .exit) ≡ withMatrix n (tableauOf (now (file .entry))) step (now (work .entry)) ⌝ }
+{
+    let c = step * tableau::gamma(file);
+    let mut from = 8 * n;
+    let mut to = from + n * n;
+    let mut row = 0;
+    while row < n {
+        matrix_row(work, to, from, n, row, c);
+        from += n;
+        to += n;
+        row += 1;
+    }
+}
+
+// Factors the matrix in place, and lists the rows of its pivots.
+pub fn factorize_matrix(work: &mut [f64], pivots: &mut [usize], n: usize, s: usize) -> Factorization
+    requires { ⌜ Room n s (length (now work)) × (length (now pivots) ≡ n) ⌝ }
+    ensures { λ r. ⌜ (r ≡ eliminationIn n (now (pivots .entry)) (now (work .entry)) .answer) × (now (work .exit) ≡ withFactors n (now (pivots .entry)) (now (work .entry)))
+        × (now (pivots .exit) ≡ eliminationIn n (now (pivots .entry)) (now (work .entry)) .pivots) ⌝ }
+{
+    let factors = 8 * n + n * n;
+    let stages = factors + n * n;
+    linear::factorize_raw(&mut work[factors..stages], pivots, n)
+}

@@ -1,7 +1,7 @@
 // The tableau file: its check, its counts and coefficients, and whether two files hold one tableau.
 ghost use mathlib.Core.Path.{_≡_};
 ghost use mathlib.Core.Bool.{_&&_};
-ghost use Prim.Native.Nat.{_+_, _-_, _/_, _≤_, _<_};
+ghost use Prim.Native.Nat.{ℕ, _+_, _-_, _*_, _/_, _≤_, _<_};
 ghost use lib.ListN.{length};
 ghost use lib.Ieee.{binary64, ofBits};
 ghost use Rattle.vector.specs.Lists.{el, every};
@@ -257,6 +257,27 @@ pub fn coupling(file: &[u8], i: usize, j: usize) -> f64
         return of_part(file, 1 + triangle(s) + triangle(i), i, j);
     }
     0.0 / 0.0
+}
+
+// Where row i of a, and of coupling, starts in the file's order, for who reads it whole: past the
+// end where i is no stage.
+pub fn a_row(file: &[u8], i: usize) -> usize
+    ensures { λ r. ⌜ (8 * r ≤ length (now (file .entry)) + 456) × ((j : ℕ) → j < i → el (tableauOf (now (file .entry)) .coefficients) (r + j) ≡ aOf (tableauOf (now (file .entry))) i j) ⌝ }
+{
+    if i < stages(file) {
+        return 1 + triangle(i);
+    }
+    file.len() / 8
+}
+
+pub fn coupling_row(file: &[u8], i: usize) -> usize
+    ensures { λ r. ⌜ (8 * r ≤ length (now (file .entry)) + 456) × ((j : ℕ) → j < i → el (tableauOf (now (file .entry)) .coefficients) (r + j) ≡ couplingOf (tableauOf (now (file .entry))) i j) ⌝ }
+{
+    let s = stages(file);
+    if i < s {
+        return 1 + triangle(s) + triangle(i);
+    }
+    file.len() / 8
 }
 
 pub fn c(file: &[u8], i: usize) -> f64

@@ -1,6 +1,7 @@
 -- A matrix that is given by its entries, two that agree at each entry, and a store at an entry. Assumes nothing.
-use Prim.Native.Nat.{ℕ, zero, suc, _+_, _*_, _/_, _%_, _<_}
-use native.Mathlib.Nat.{suc-mul, zero-mul, div-add-mod', mod-lt, div-lt-iff-lt-mul}
+use Prim.Native.Nat.{ℕ, zero, suc, _+_, _*_, _/_, _%_, _<_, _≤_}
+use native.Mathlib.Numerals.{add-one}
+use native.Mathlib.Nat.{suc-mul, zero-mul, mul-le-mul-right, div-add-mod', mod-lt, div-lt-iff-lt-mul}
 use native.Mathlib.Omega.{arith}
 use mathlib.Core.Path.{_≡_, sym, ap, _∙_}
 use mathlib.Core.Bool.{cond}
@@ -15,6 +16,13 @@ use Rattle.float.proofs.Cases.{by}
 use Rattle.vector.specs.Lists.{el, table}
 use Rattle.vector.specs.Matrices.{entry, rows}
 use Rattle.vector.proofs.Lists.{length-table, table-at}
+
+-- where row i of r rows of n entries ends, and the next row starts
+pub row-inside : (n r i : ℕ) → i < r → i * n + n ≤ r * n
+row-inside n r i h = rw (← suc-mul) (mul-le-mul-right n h)
+
+pub row-next : (n i : ℕ) → (i + 1) * n ≡ i * n + n
+row-next n i = rw add-one (suc-mul i n)
 
 pub length-rows : (f : ℕ → ℕ → Float) (n r : ℕ) → length (rows f n r) ≡ r * n
 unfolding rows

@@ -2,13 +2,13 @@
 use Prim.Native.Nat.{ℕ, zero, suc, _+_, _-_, _<_, _≤_}
 use native.Mathlib.Omega.{arith}
 use native.Mathlib.Numerals.{add-one}
-use native.Mathlib.Nat.{add-zero}
+use native.Mathlib.Nat.{add-zero, add-suc}
 use mathlib.Core.Path.{_≡_, refl, sym, ap, _∙_}
 use mathlib.Core.Bool.{cond}
 use mathlib.Core.List.{List, [], _∷_, _++_}
 use mathlib.Core.Logic.{_⊎_, inl, inr, ⊎-elim}
 use lib.ListN.{length, take, drop, getD, set, length-set, length-append, length-drop, List·getD-append}
-use lib.Seq.{sets, getD-set-same, getD-set-other, getD-take, getD-drop, getD-append-add, length-take-le, ext-getD}
+use lib.Seq.{sets, set-getD, set-set, set-comm, getD-set-same, getD-set-other, getD-take, getD-drop, getD-append-add, length-take-le, ext-getD}
 use lib.Dec.{eqb, ltb}
 use borrow.Author.Tests.{eq-eqb, ne-eqb, eqb-true, eqb-false, ltb-true, ltb-false}
 use borrow.Rule.Slice.PartMut.{putMid, postOf}
@@ -81,6 +81,45 @@ module _ {A : Type 0} where
       let other : i ≡ k → ⊥ = λ z. eqb-false j (at + k) t (omega arith) in
       rw e (puts-held d w at f n i h r ∙ sym (puts-held d w at g n i h r ∙ sym (no v (ne-eqb i k other) refl))))
       (λ b′. puts-left d w at f n j (inr (ltb-false j (at + n) b′)) ∙ sym (puts-left d w at g n j (inr (ltb-false j (at + n) b′)))))))
+
+  -- a store of what stands there
+  pub puts-own : (d : A) (w : List A) (at n : ℕ) → puts w at (λ j. getD w (at + j) d) n ≡ w
+  unfolding puts
+  puts-own d w at zero = refl
+  puts-own d w at (suc n) = ap (λ (v : List A). set v (at + n) (getD w (at + n) d)) (puts-own d w at n) ∙ set-getD w (at + n) d
+
+  -- a store outside, before or after
+  pub set-puts : (w : List A) (at : ℕ) (f : ℕ → A) (n j : ℕ) (u : A) → (j < at) ⊎ (at + n ≤ j) → set (puts w at f n) j u ≡ puts (set w j u) at f n
+  unfolding puts
+  set-puts w at f zero j u h = refl
+  set-puts w at f (suc n) j u h =
+      let q : at + n ≡ j → ⊥ = λ e. ⊎-elim (λ a. omega arith) (λ a. omega arith) h in
+      set-comm (puts w at f n) (at + n) j (f n) u q
+      ∙ ap (λ (v : List A). set v (at + n) (f n)) (set-puts w at f n j u (⊎-elim {C = (j < at) ⊎ (at + n ≤ j)} (λ a. inl a) (λ a. inr (omega arith)) h))
+
+  -- a store over another
+  pub puts-again : (w : List A) (at : ℕ) (f g : ℕ → A) (n : ℕ) → puts (puts w at f n) at g n ≡ puts w at g n
+  unfolding puts
+  puts-again w at f g zero = refl
+  puts-again w at f g (suc n) =
+      ap (λ (v : List A). set v (at + n) (g n)) (sym (set-puts (puts w at f n) at g n (at + n) (f n) (inr (omega arith))))
+      ∙ set-set (puts (puts w at f n) at g n) (at + n) (f n) (g n)
+      ∙ ap (λ (v : List A). set v (at + n) (g n)) (puts-again w at f g n)
+
+  -- a store right after another
+  pub puts-join : (w : List A) (at : ℕ) (f : ℕ → A) (m : ℕ) (g : ℕ → A) (n : ℕ) → ((j : ℕ) → j < n → g j ≡ f (m + j)) → puts (puts w at f m) (at + m) g n ≡ puts w at f (m + n)
+  unfolding puts
+  puts-join w at f m g zero h = ap (puts w at f) (sym (add-zero m))
+  puts-join w at f m g (suc n) h =
+      let e : at + m + n ≡ at + (m + n) = omega arith in
+      rw (add-suc, puts-join w at f m g n (λ j k. h j (omega arith)), h n (omega arith), e)
+
+  -- a loop that stores in two places, the first before the second: its next stores
+  pub puts-both : (w : List A) (a b : ℕ) (f g : ℕ → A) (k : ℕ) {u v : A} → a + k < b → u ≡ f k → v ≡ g k
+      → set (set (puts (puts w a f k) b g k) (a + k) u) (b + k) v ≡ puts (puts w a f (k + 1)) b g (k + 1)
+  puts-both w a b f g k {u} {v} h p q =
+      ap (λ (x : List A). set x (b + k) v) (set-puts (puts w a f k) b g k (a + k) u (inl h) ∙ ap (λ (x : List A). puts x b g k) (puts-more w a f k p))
+      ∙ puts-more (puts w a f (k + 1)) b g k q
 
   -- ---- a part that was lent, from a on and k long, and has come back as ys: `putMid a k xs ys`
   pub mid-before : (d : A) (a k : ℕ) (xs ys : List A) (j : ℕ) → a ≤ length xs → j < a → getD (putMid a k xs ys) j d ≡ getD xs j d
