@@ -3,4 +3,5 @@ pub mod Lists
 pub mod Stores
 pub mod Parts
 pub mod Matrices
+pub mod ColumnEntries
 mod Four

@@ -1,0 +1,3 @@
+-- Laws that dependents may cite.
+pub mod Sums
+pub mod Writes
