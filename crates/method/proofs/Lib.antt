@@ -2,3 +2,5 @@
 pub mod Conforms
 pub mod Holds
 pub mod Solving
+pub mod Stages
+pub mod Matrix

@@ -16,6 +16,7 @@ use Rattle.vector.specs.Parts.{part, puts}
 use Rattle.vector.proofs.Lists.{length-table, table-at, table-same}
 use Rattle.vector.proofs.Parts.{part-joined, part-puts, part-left}
 use Rattle.vector.proofs.Stores.{length-puts}
+use Rattle.linear.specs.Elimination.{eliminated}
 use Rattle.linear.specs.Substitution.{solution}
 use Rattle.tableau.specs.Tableau.{bOf}
 use Rattle.stages.specs.Layout.{candidateAt, errorAt, stageStateAt, currentAt, timePartialAt, linearRhsAt, jacobianAt, factorsAt, stagesAt, stageAt, rhsStagesAt, rhsStageAt}
@@ -23,7 +24,7 @@ use Rattle.stages.specs.Method.{stageState, rightHandSide, stageValue, errorWei
 use Rattle.stages.specs.Memory.{withStageState, withStageSolved, withStageAdded}
 use Rattle.stages.proofs.Sums.{new-same, error-same}
 use Rattle.stages.proofs.Writes.{state-written, solved-length, solved-left, solved-written, added-length, added-left, added-candidate, added-error}
-use Rattle.method.specs.Step.{Attempted, Evaluated, solve, stateOf, derivativeOf, stageOf, stages, derivatives}
+use Rattle.method.specs.Step.{Attempted, Evaluated, matrix, solve, stateOf, derivativeOf, stageOf, stages, derivatives}
 use Rattle.method.proofs.Holds.{Sums, Inputs, Factors, before, after, sums-kept, inputs-kept, factors-kept}
 
 module _ (p : Attempted) (e : Evaluated) where
@@ -126,3 +127,85 @@ module _ (p : Attempted) (e : Evaluated) where
               inputs = inputs-kept p e s w long (rhsStageAt (p .n) s i) f (p .n) (after (omega arith)) (h .inputs);
               factors = factors-kept p e s w long (rhsStageAt (p .n) s i) f (p .n) pivots (inr (omega arith)) (h .factors);
             }
+
+      -- stage i, solved: what stands beside the right-hand side's place and its own is left
+      module _ (at-stage : part (rhsStageAt (p .n) s i) (p .n) w ≡ derivativeOf p e i (stages p e i)) (h : Solving i i (suc i) w pivots) where
+        abbrev v : List Float
+        v = withStageSolved (p .n) s (p .tableau) pivots i (p .h) w
+
+        pub stage-there : part (stageAt (p .n) i) (p .n) v ≡ stageOf p e i (stages p e i)
+        unfolding stageOf solve
+        stage-there =
+            let long = h .sums .long in
+            let r = room in
+            let q : suc i * p .n ≡ i * p .n + p .n = suc-mul i (p .n) in
+            let u = stages p e i in
+            let f = derivativeOf p e i u in
+            let a = eliminated (p .n) (matrix p e) (p .n) in
+            let b = table (rightHandSide (p .tableau) (p .h) i (entry (p .n) u) (el f) (el (e .fₜ))) (p .n) in
+            solved-written (p .n) s (p .tableau) w pivots i (p .h) (omega arith) u f (e .fₜ) a
+            (h .sums .stages-there) at-stage (h .inputs .partial-there) (h .factors .factors-there)
+            ∙ ap (λ (rows : List ℕ). table (stageValue (p .tableau) (p .h) (el (solution (p .n) a rows b))) (p .n)) (h .factors .pivots-there)
+
+        pub stage-leaves : Solving i (suc i) (suc i) v pivots
+        unfolding stages
+        stage-leaves =
+            let long = h .sums .long in
+            let r = room in
+            let q : suc i * p .n ≡ i * p .n + p .n = suc-mul i (p .n) in
+            let left = solved-left (p .n) s (p .tableau) w pivots i (p .h) (omega arith) in
+            record {
+              sums =
+                  record {
+                    long = solved-length (p .n) s (p .tableau) w pivots i (p .h) (omega arith) ∙ long;
+                    candidate-there = left (candidateAt (p .n)) (p .n) (omega arith) (inl (omega arith)) (inl (omega arith)) ∙ h .sums .candidate-there;
+                    error-there = left (errorAt (p .n)) (p .n) (omega arith) (inl (omega arith)) (inl (omega arith)) ∙ h .sums .error-there;
+                    stages-there =
+                        ap (λ (l : ℕ). part (stagesAt (p .n)) l v) q
+                        ∙ part-joined (stagesAt (p .n)) (i * p .n) (p .n) v
+                        ∙ ap₂ _++_ (left (stagesAt (p .n)) (i * p .n) (omega arith) (inr (omega arith)) (inl (omega arith)) ∙ h .sums .stages-there) stage-there;
+                    derivatives-there =
+                        left (rhsStagesAt (p .n) s) (suc i * p .n) (omega arith) (inr (omega arith)) (inr (omega arith)) ∙ h .sums .derivatives-there;
+                  };
+              inputs =
+                  record {
+                    derivative-there = left (currentAt (p .n)) (p .n) (omega arith) (inl (omega arith)) (inl (omega arith)) ∙ h .inputs .derivative-there;
+                    jacobian-there = left (jacobianAt (p .n)) (p .n * p .n) (omega arith) (inr (omega arith)) (inl (omega arith)) ∙ h .inputs .jacobian-there;
+                    partial-there = left (timePartialAt (p .n)) (p .n) (omega arith) (inl (omega arith)) (inl (omega arith)) ∙ h .inputs .partial-there;
+                  };
+              factors =
+                  record {
+                    factors-there = left (factorsAt (p .n)) (p .n * p .n) (omega arith) (inr (omega arith)) (inl (omega arith)) ∙ h .factors .factors-there;
+                    pivots-there = h .factors .pivots-there;
+                  };
+            }
+
+      -- stage i, added up: what stands after the error is left
+      pub added-leaves : part (stageAt (p .n) i) (p .n) w ≡ stageOf p e i (stages p e i) → Solving i (suc i) (suc i) w pivots
+          → Solving (suc i) (suc i) (suc i) (withStageAdded (p .n) (p .tableau) i w) pivots
+      added-leaves at-stage h =
+          let long = h .sums .long in
+          let r = room in
+          let q : suc i * p .n ≡ i * p .n + p .n = suc-mul i (p .n) in
+          let left = added-left (p .n) s (p .tableau) w i in
+          record {
+            sums =
+                record {
+                  long = added-length (p .n) s (p .tableau) w i ∙ long;
+                  candidate-there = added-candidate (p .n) s (p .tableau) w i (omega arith) _ at-stage _ (h .sums .candidate-there) ∙ candidate-more i;
+                  error-there = added-error (p .n) s (p .tableau) w i (omega arith) _ at-stage _ (h .sums .error-there) ∙ error-more i;
+                  stages-there = left (stagesAt (p .n)) (suc i * p .n) (omega arith) (omega arith) ∙ h .sums .stages-there;
+                  derivatives-there = left (rhsStagesAt (p .n) s) (suc i * p .n) (omega arith) (omega arith) ∙ h .sums .derivatives-there;
+                };
+            inputs =
+                record {
+                  derivative-there = left (currentAt (p .n)) (p .n) (omega arith) (omega arith) ∙ h .inputs .derivative-there;
+                  jacobian-there = left (jacobianAt (p .n)) (p .n * p .n) (omega arith) (omega arith) ∙ h .inputs .jacobian-there;
+                  partial-there = left (timePartialAt (p .n)) (p .n) (omega arith) (omega arith) ∙ h .inputs .partial-there;
+                };
+            factors =
+                record {
+                  factors-there = left (factorsAt (p .n)) (p .n * p .n) (omega arith) (omega arith) ∙ h .factors .factors-there;
+                  pivots-there = h .factors .pivots-there;
+                };
+          }
