@@ -4,3 +4,6 @@ pub mod Holds
 pub mod Solving
 pub mod Stages
 pub mod Matrix
+pub mod Partial
+pub mod Columns
+pub mod Jacobian

@@ -8,7 +8,7 @@ use lib.ListN.{length, take, drop, getD, length-drop}
 use lib.Seq.{getD-take, getD-drop, length-take-le, ext-getD, take-add, take-all, drop-drop}
 use Rattle.vector.specs.Lists.{table}
 use Rattle.vector.specs.Parts.{part, puts}
-use Rattle.vector.proofs.Lists.{length-table, table-at}
+use Rattle.vector.proofs.Lists.{length-table, table-at, table-own}
 use Rattle.vector.proofs.Stores.{length-puts, puts-left, puts-held}
 
 module _ {A : Type 0} where
@@ -37,6 +37,9 @@ module _ {A : Type 0} where
       ext-getD d (part at n v) (table f n) (length-part at n v k ∙ sym (length-table f n))
       (λ i q. let l : i < n = omega (arith, length-part at n v k) in
       part-at d at n v i l ∙ puts-held d w at f n i h l ∙ sym (table-at d f n i l))
+
+  pub part-stored : (w : List A) (at : ℕ) (x : List A) (n : ℕ) (d : A) → length x ≡ n → at + n ≤ length w → part at n (puts w at (λ j. getD x j d) n) ≡ x
+  part-stored w at x n d h l = part-puts w at (λ j. getD x j d) n d l ∙ table-own d x n h
 
   -- a list that is stored anew as a whole
   pub puts-all : (w : List A) (f : ℕ → A) (n : ℕ) (d : A) → length w ≡ n → puts w 0 f n ≡ table f n
