@@ -7,3 +7,5 @@ pub mod Matrix
 pub mod Partial
 pub mod Columns
 pub mod Jacobian
+pub mod Start
+pub mod Attempt
