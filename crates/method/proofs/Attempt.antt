@@ -2,20 +2,20 @@
 use Prim.Native.Nat.{ℕ, _*_, _≤_}
 use native.Mathlib.Omega.{arith}
 use mathlib.Core.Path.{_≡_, refl, sym, ap, _∙_, subst}
-use mathlib.Core.Bool.{Bool, true, false, not, cond, _&&_, true≢false}
-use mathlib.Core.List.{List, []}
+use mathlib.Core.Bool.{Bool, true, false, cond, _&&_, true≢false}
+use mathlib.Core.List.{List, [], _∷_, _++_}
 use mathlib.Core.Option.{none, some}
 use lib.Dec.{eqb, leb}
-use lib.ListN.{length, replicate}
+use lib.ListN.{length}
 use lib.Ieee.{Float, eq}
 use borrow.Author.Tests.{eqb-true, leb-true, not-false}
-use Rattle.float.specs.Operators.{_⊕_, 𝟎}
+use Rattle.float.specs.Operators.{_⊕_, _⊖_, 𝟎}
 use Rattle.float.proofs.Cases.{by, and-left, and-right}
 use Rattle.vector.specs.Parts.{part}
 use Rattle.vector.proofs.Lists.{table-replicate}
 use Rattle.stepping.specs.Refusals.{firstOf}
 use Rattle.stepping.proofs.Refusals.{passed, is-answered}
-use Rattle.tableau.specs.Tableau.{present, stagesOf}
+use Rattle.tableau.specs.Tableau.{present}
 use Rattle.tableau.specs.File.{tableauOf}
 use Rattle.stages.specs.Layout.{currentAt, timePartialAt, jacobianAt, stagesAt, rhsStagesAt, neededWork}
 use Rattle.attempts.specs.Marks.{noting, withErrorShown, oneAttempt}
@@ -23,15 +23,16 @@ use Rattle.attempts.specs.Attempt.{onWork, onMarks, halt, choose, show, begun, 
 use Rattle.rosenbrock.specs.declared.Fixed.{Fixed}
 use Rattle.rosenbrock.specs.declared.Progress.{Progress}
 use Rattle.rosenbrock.specs.Requests.{requestAfter, stageAfter}
-use Rattle.rosenbrock.specs.Answers.{Lent, shown, candidateOf, errorShown, shownPart, stagesShown, rhsStagesShown, jacobianShown, timePartialShown, viewOf}
+use Rattle.rosenbrock.specs.Answers.{Lent, Request, derivative, asked, shown, candidateOf, errorShown, shownPart, stagesShown, rhsStagesShown, jacobianShown, timePartialShown, viewOf}
 use Rattle.rosenbrock.specs.Answers as answers
-use Rattle.rosenbrock.specs.Tests.{shapeFits, attemptTests, stepTests}
-use Rattle.rosenbrock.specs.Calls.{Out, refusal, guarded, givenBy, scratchBy, progressAfter, settle, opening, opened, attemptBy, attemptOf}
+use Rattle.rosenbrock.specs.Tests.{shapeFits, attemptTests, stepTests, decisionTests}
+use Rattle.rosenbrock.specs.Calls.{Out, refusal, guarded, givenBy, scratchBy, progressAfter, settle, opening, opened, attemptBy, attemptOf, rejected, rejectOf}
 use Rattle.method.specs.Step as method
-use Rattle.method.specs.Step.{Problem, Attempted, Differentiation, Caches, orElse, evaluated, derivativeAt, differentiationAt, partialAt}
-use Rattle.method.specs.Schedule.{schedule}
+use Rattle.method.specs.Step.{Problem, Attempted, Evaluated, Differentiation, Cache, cached, nothing, Caches, orElse, evaluated, derivativeAt, differentiationAt, partialAt}
+use Rattle.method.specs.Schedule.{unlessCached, derivativeItems, jacobianItems, partialItems, schedule, asksFor}
 use Rattle.method.specs.Conversation.{Conversation, shownError, restView, requestsOf, answerOf, Sized, ifValid, cachesIn, attemptedBy, AttemptIsStep}
 use Rattle.method.proofs.Conforms.{stepOf, Ready, Conforms, not-chosen}
+use Rattle.method.proofs.Partial.{matrixOn}
 use Rattle.method.proofs.Start.{evaluates, begun-candidate, begun-error, begun-left, begun-sums}
 
 -- ---- what the tests of an attempt establish
@@ -116,7 +117,7 @@ module _ (fx : Fixed) (file : List ℕ) (problem : Problem) (x : Progress) (m : 
         let counts = tableauOf file .counts in
         let v = begun-candidate fx file x m state long in
         let r = ap (λ (l : List Float). cond (eqb (counts .estimator) 0 && present counts) (some l) none)
-                (begun-error fx file x m state long ∙ table-replicate 𝟎 (fx .n)) in
+        (begun-error fx file x m state long ∙ table-replicate 𝟎 (fx .n)) in
         λ i. shown
         (record {
           previous = m .state;
@@ -155,9 +156,10 @@ module _ (fx : Fixed) (file : List ℕ) (problem : Problem) (x : Progress) (m : 
       (λ t. made-anew b _ _ t)
       (record {
         if-cached =
-            λ t.
-            (begun-left fx file x m state long (jacobianAt n) (n * n) (omega arith) (omega arith) ∙ ap (λ (d : Differentiation). d .J) (kept-or-new k old new t),
-            begun-left fx file x m state long (timePartialAt n) n (omega arith) (omega arith) ∙ ap (λ (d : Differentiation). d .fₜ) (kept-or-new k old new t));
+            λ t. (
+              begun-left fx file x m state long (jacobianAt n) (n * n) (omega arith) (omega arith) ∙ ap (λ (d : Differentiation). d .J) (kept-or-new k old new t),
+              begun-left fx file x m state long (timePartialAt n) n (omega arith) (omega arith) ∙ ap (λ (d : Differentiation). d .fₜ) (kept-or-new k old new t),
+            );
         if-not = λ t. (ap (λ (d : Differentiation). d .J) (made-anew k old new t), ap (λ (d : Differentiation). d .fₜ) (made-anew k old new t));
       })
       rows)
@@ -180,3 +182,62 @@ attempt-is-step fx file problem step host-J host-fₜ x m passes steps sized =
     (by (eq (y .step) 𝟎)
     (λ still. rw still (rests fx file problem y m (s .work-fits) (s .state-fits) still))
     (λ moves. rw moves (goes-through fx file problem y m (s .work-fits) (ready fx file x m passes problem sized) (s .pivots-fit) moves .conversation)))
+
+-- ---- what it means for the requests
+
+module _ (p : Attempted) (end : Float) (c : Caches) (moves : eq (p .h) 𝟎 ≡ false) where
+  abbrev e : Evaluated
+  e = evaluated p c
+
+  moving : requestsOf p end c ≡ asksFor (schedule p c)
+  unfolding requestsOf
+  moving = ap (λ (b : Bool). cond b [] (asksFor (schedule p c))) moves
+
+  -- without a cached derivative they begin with the derivative at the accepted time and state
+  pub begin-with-derivative : c .derivative ≡ nothing → (rs : List Request) × (requestsOf p end c ≡ record { kind = derivative; time = p .t; state = p .y } ∷ rs)
+  unfolding schedule unlessCached derivativeItems asksFor
+  begin-with-derivative q =
+      (_, moving ∙ ap (λ (d : Cache (List Float)). asksFor (unlessCached d (derivativeItems p e) ++ (unlessCached (c .differentiation) (jacobianItems p e ++ partialItems p e) ++ matrixOn p e))) q)
+
+  -- where all is cached they are those of the stages
+  pub only-stages : (f₀ : List Float) (d : Differentiation) → c .derivative ≡ cached f₀ → c .differentiation ≡ cached d → requestsOf p end c ≡ asksFor (matrixOn p e)
+  unfolding schedule unlessCached
+  only-stages f₀ d q r =
+      moving
+      ∙ ap (λ (k : Cache (List Float)). asksFor (unlessCached k (derivativeItems p e) ++ (unlessCached (c .differentiation) (jacobianItems p e ++ partialItems p e) ++ matrixOn p e))) q
+      ∙ ap (λ (k : Cache Differentiation). asksFor (unlessCached k (jacobianItems p e ++ partialItems p e) ++ matrixOn p e)) r
+
+-- an attempt without a cached derivative asks for it first
+pub first-request : (fx : Fixed) (file : List ℕ) (problem : Problem) (step : Float) (host-J host-fₜ : Bool) (x : Progress) (m : Lent)
+    → firstOf (attemptTests fx file x m) ≡ 0 → firstOf (stepTests step x) ≡ 0 → Sized (fx .n) problem → eq ((x .time ⊕ step) ⊖ x .time) 𝟎 ≡ false
+    → x .memo .«derivative_valid» ≡ false → attemptOf fx file step host-J host-fₜ x m .answer ≡ asked (record { kind = derivative; time = x .time; state = m .state })
+unfolding Conversation attemptedBy cachesIn ifValid
+first-request fx file problem step host-J host-fₜ x m passes steps sized moves invalid =
+    let p = attemptedBy fx file problem step host-J host-fₜ x m in
+    let c = cachesIn fx x m in
+    let b = begin-with-derivative p (x .time ⊕ step) c moves (ap (λ (v : Bool). ifValid v (part (currentAt (fx .n)) (fx .n) (m .work))) invalid) in
+    let conversation : Conversation fx file problem (record { kind = derivative; time = x .time; state = m .state } ∷ b .0) (attemptOf fx file step host-J host-fₜ x m) _ =
+    subst (λ (rs : List Request). Conversation fx file problem rs (attemptOf fx file step host-J host-fₜ x m) (answerOf p (x .time ⊕ step) c)) (b .1)
+    (attempt-is-step fx file problem step host-J host-fₜ x m passes steps sized) in
+    conversation .0
+
+-- a reject leaves what is cached: where all of it is, a further attempt asks for the derivatives at stages only
+pub after-reject : (fx : Fixed) (file : List ℕ) (problem : Problem) (step : Float) (host-J host-fₜ : Bool) (x : Progress) (m : Lent)
+    → firstOf (decisionTests fx x m) ≡ 0 → eq ((x .time ⊕ step) ⊖ x .time) 𝟎 ≡ false → x .memo .«derivative_valid» ≡ true → x .memo .«differentiation_valid» ≡ true
+    → let o = rejectOf fx x m in
+    let p = attemptedBy fx file problem step host-J host-fₜ (o .progress) (o .lent) in
+    let c = cachesIn fx (o .progress) (o .lent) in
+    requestsOf p (x .time ⊕ step) c ≡ asksFor (matrixOn p (evaluated p c))
+unfolding rejectOf rejected progressAfter guarded attemptedBy cachesIn ifValid
+after-reject fx file problem step host-J host-fₜ x m passes moves valid valid₂ =
+    let n = fx .n in
+    let w = m .work in
+    let old : Differentiation = record { J = part (jacobianAt n) (n * n) w; fₜ = part (timePartialAt n) n w } in
+    subst
+    (λ (o : Out).
+    let p = attemptedBy fx file problem step host-J host-fₜ (o .progress) (o .lent) in
+    let c = cachesIn fx (o .progress) (o .lent) in
+    requestsOf p (x .time ⊕ step) c ≡ asksFor (matrixOn p (evaluated p c)))
+    (is-answered (refusal x m) passes refl)
+    (only-stages (attemptedBy fx file problem step host-J host-fₜ x m) (x .time ⊕ step) (cachesIn fx x m) moves (part (currentAt n) n w) old
+    (ap (λ (v : Bool). ifValid v (part (currentAt n) n w)) valid) (ap (λ (v : Bool). ifValid v old) valid₂))

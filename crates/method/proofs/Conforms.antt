@@ -9,14 +9,13 @@ use lib.Ieee.{Float}
 use borrow.Author.Tests.{lt-ltb, le-leb, eq-eqb}
 use Rattle.float.proofs.Cases.{both}
 use Rattle.vector.specs.Lists.{every}
-use Rattle.stepping.specs.Refusals.{Test, _when_, firstOf}
+use Rattle.stepping.specs.Refusals.{_when_, firstOf}
 use Rattle.stepping.proofs.Refusals.{later, none, is-answered}
 use Rattle.tableau.specs.Tableau.{stagesOf}
 use Rattle.tableau.specs.File.{tableauOf, accepts}
 use Rattle.stages.specs.Layout.{neededWork}
 use Rattle.attempts.specs.declared.Ask.{Ask}
 use Rattle.attempts.specs.declared.Ask.the-variants.{Derivative, Jacobian, TimePartial, FirstProbe, SecondProbe, Column, Stage}
-use Rattle.attempts.specs.declared.Ending.the-variants.{Asks, Ends}
 use Rattle.attempts.specs.declared.Memo.{Memo}
 use Rattle.attempts.specs.Marks.{nothingCounted, withRequestTime, counting, noting, countingRhs}
 use Rattle.attempts.specs.Attempt.{Scratch, scratch, Stopped, onMarks, halt, refuse, ask, askRhs, choose, provided, resume, wanted}
@@ -149,9 +148,9 @@ module _ (fx : Fixed) (file : List ℕ) (problem : Problem) (x : Progress) (m : 
   unfolding progressAfter
   supply-passes =
       let shape : shapeFits (fx .n) (fx .s) (length (m .state)) (length (sc .work)) (length (sc .pivots)) ≡ true =
-              fits _ _ _ _ _ (ready .some) (ready .small) (ready .staged) (ready .few) (ready .state) (fit .work) (fit .pivots) in
+      fits _ _ _ _ _ (ready .some) (ready .small) (ready .staged) (ready .few) (ready .state) (fit .work) (fit .pivots) in
       let wants : eqb (length values) (wanted (fx .n) (askOf (askNumber a) (askStage a))) ≡ true =
-              eq-eqb _ _ (long ∙ ap (wanted (fx .n)) (sym (same-ask a))) in
+      eq-eqb _ _ (long ∙ ap (wanted (fx .n)) (sym (same-ask a))) in
       later _ _ (ap not shape)
       (later _ _ (ap not (fit .request))
       (later _ _ (ready .file-accepted)
@@ -215,12 +214,13 @@ module _ {fx : Fixed} {file : List ℕ} {problem : Problem} {x : Progress} {m : 
     unfolding Conversation asksFor endsIn ask halt onMarks noting withRequestTime settle answerOf requestOf requestAfter stageAfter progressAfter
     asks sc items z state fit then =
         record {
-          conversation =
-              (ap (λ (l : List Float). asked (record { kind = kindOf a; time = t; state = l })) state,
-              subst (λ (o : Out). Conversation fx file problem (asksFor items) o (lastAnswer (stepOf fx file problem x m) (x .end) (endsIn items) e))
-              (resumed fx file problem x m ready sc (withRequestTime t (sc .marks .memo)) a fit (answerTo problem (kindOf a) t z)
-              (answer-long (fx .n) problem (ready .sized) a t z))
-              (then .conversation));
+          conversation = (
+            ap (λ (l : List Float). asked (record { kind = kindOf a; time = t; state = l })) state,
+            subst (λ (o : Out). Conversation fx file problem (asksFor items) o (lastAnswer (stepOf fx file problem x m) (x .end) (endsIn items) e))
+                (resumed fx file problem x m ready sc (withRequestTime t (sc .marks .memo)) a fit (answerTo problem (kindOf a) t z)
+                (answer-long (fx .n) problem (ready .sized) a t z))
+                (then .conversation),
+          );
         }
 
     pub asks-rhs : (sc : Scratch) (items : List Item) (z : List Float) → stateAsked fx (lending (m .state) (sc .work) (sc .pivots)) a ≡ z → Answerable fx sc a

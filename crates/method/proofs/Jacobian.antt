@@ -11,11 +11,10 @@ use borrow.Author.Tests.{eq-eqb, ne-eqb}
 use Rattle.float.specs.Operators.{𝟎}
 use Rattle.float.proofs.Cases.{yes, no}
 use Rattle.vector.specs.Lists.{el, allFinite}
-use Rattle.vector.specs.Parts.{part, puts}
+use Rattle.vector.specs.Parts.{part}
 use Rattle.vector.proofs.Parts.{part-left, part-stored}
 use Rattle.stepping.specs.Refusals.{nonFinite, timeResolution}
 use Rattle.stages.specs.Layout.{currentAt, probeStateAt, probeRhsAt, jacobianAt, neededWork}
-use Rattle.differentiation.specs.Differences.{rise}
 use Rattle.differentiation.specs.Memory.{withProbeState}
 use Rattle.differentiation.proofs.Writes.{probe-written}
 use Rattle.attempts.specs.declared.Ask.the-variants.{Jacobian, Column}

@@ -1,11 +1,11 @@
 -- Laws that dependents may cite.
-pub mod Conforms
-pub mod Holds
-pub mod Solving
-pub mod Stages
-pub mod Matrix
-pub mod Partial
-pub mod Columns
-pub mod Jacobian
-pub mod Start
+mod Conforms
+mod Holds
+mod Solving
+mod Stages
+mod Matrix
+mod Partial
+mod Columns
+mod Jacobian
+mod Start
 pub mod Attempt

@@ -1,7 +1,7 @@
 -- The matrix of the stages and its factors in an open attempt conform to those of its step. Assumes nothing.
 use Prim.Native.Nat.{ℕ, _*_}
 use native.Mathlib.Omega.{arith}
-use mathlib.Core.Path.{_≡_, refl, sym, ap, _∙_}
+use mathlib.Core.Path.{_≡_, ap, _∙_}
 use mathlib.Core.Bool.{false}
 use mathlib.Core.List.{List, [], _++_}
 use lib.Dec.{eqb}
@@ -31,7 +31,7 @@ use Rattle.rosenbrock.specs.Calls.{givenBy}
 use Rattle.method.specs.Step.{Problem, Attempted, Evaluated, matrix}
 use Rattle.method.specs.Schedule.{matrixItems, stagesItems, endItems}
 use Rattle.method.proofs.Conforms.{stepOf, Ready, Conforms, goes-on}
-use Rattle.method.proofs.Holds.{Sums, Inputs, Factors, after, sums-kept, inputs-kept}
+use Rattle.method.proofs.Holds.{Sums, Inputs, after, sums-kept, inputs-kept}
 use Rattle.method.proofs.Solving.{Solving}
 use Rattle.method.proofs.Stages.{first-stage}
 
@@ -77,20 +77,20 @@ module _ (p : Attempted) (e : Evaluated) (s : ℕ) (w : List Float) (sums : Sums
       }
 
 module _ (fx : Fixed) (file : List ℕ) (problem : Problem) (x : Progress) (m : Lent) (e : Evaluated) (ready : Ready fx file problem m) (moves : eq (x .step) 𝟎 ≡ false) where
-  abbrev q : Attempted
-  q = stepOf fx file problem x m
+  abbrev p : Attempted
+  p = stepOf fx file problem x m
 
-  pub factors : (sc : Scratch) → Sums q e (fx .s) 0 0 0 (sc .work) → Inputs q e (sc .work) → length (sc .pivots) ≡ fx .n
-      → Conforms fx file problem x m e (matrixItems q e ++ (stagesItems q e 0 (stagesOf (tableauOf file)) ++ endItems q e)) (factor (givenBy fx file x m) sc)
+  pub factors : (sc : Scratch) → Sums p e (fx .s) 0 0 0 (sc .work) → Inputs p e (sc .work) → length (sc .pivots) ≡ fx .n
+      → Conforms fx file problem x m e (matrixItems p e ++ (stagesItems p e 0 (stagesOf (tableauOf file)) ++ endItems p e)) (factor (givenBy fx file x m) sc)
   unfolding factor matrixItems onWork onMarks counting givenBy
   factors sc sums inputs rows =
       let n = fx .n in
-      let a = matrix q e in
-      let there = matrix-there q e (fx .s) (sc .work) sums inputs in
+      let a = matrix p e in
+      let there = matrix-there p e (fx .s) (sc .work) sums inputs in
       let same = raw-answer n a (sc .pivots) [] in
       goes-on nonFinite _ _ _ (ap allFinite there)
       (λ _.
       goes-on singular _ _ _
       (ap (λ (l : List Float). eqb (numberOf (rawOf n l (sc .pivots) .answer)) 0) there ∙ ap (λ (r : Factorization). eqb (numberOf r) 0) same)
       (λ done. first-stage fx file problem x m e ready moves _
-      (factored q e (fx .s) (sc .work) sums inputs (sc .pivots) rows (ap (λ (r : Factorization). numberOf r) same ∙ eqb-true _ 0 done))))
+      (factored p e (fx .s) (sc .work) sums inputs (sc .pivots) rows (ap (λ (r : Factorization). numberOf r) same ∙ eqb-true _ 0 done))))

@@ -1,8 +1,8 @@
 -- The time partial of an open attempt, from the host or from probes, conforms to that of its step. Assumes nothing.
 use Prim.Native.Nat.{ℕ, _+_, _*_, _≤_}
 use native.Mathlib.Omega.{arith}
-use mathlib.Core.Path.{_≡_, refl, sym, ap, _∙_}
-use mathlib.Core.Bool.{Bool, true, false, cond}
+use mathlib.Core.Path.{_≡_, refl, ap, _∙_}
+use mathlib.Core.Bool.{false}
 use mathlib.Core.List.{List, _∷_, _++_, append-assoc}
 use mathlib.Core.Logic.{inl, inr}
 use lib.ListN.{length}
@@ -32,7 +32,7 @@ use Rattle.method.specs.Step.{Problem, Attempted, Evaluated, probedParti
 use Rattle.method.specs.Schedule.{Item, finiteTest, probeItems, partialItems, matrixItems, stagesItems, endItems}
 use Rattle.method.specs.Conversation.{answerTo}
 use Rattle.method.proofs.Conforms.{stepOf, Ready, partial-answerable, first-answerable, second-answerable, Conforms, stops, goes-on, chooses, asks, asks-rhs}
-use Rattle.method.proofs.Holds.{Sums, Inputs, sums-kept}
+use Rattle.method.proofs.Holds.{Sums, sums-kept}
 use Rattle.method.proofs.Matrix.{factors}
 
 -- what is there before the time partial

@@ -2,7 +2,7 @@
 use Prim.Native.Nat.{ℕ, zero, suc, _+_, _*_, _<_, _≤_}
 use native.Mathlib.Nat.{mul-le-mul-right, suc-mul, zero-mul}
 use native.Mathlib.Omega.{arith}
-use mathlib.Core.Path.{_≡_, refl, sym, ap, ap₂, _∙_}
+use mathlib.Core.Path.{_≡_, sym, ap, ap₂, _∙_}
 use mathlib.Core.List.{List, _++_}
 use mathlib.Core.Logic.{inl, inr}
 use lib.Arith.{digits-lt}
@@ -19,8 +19,8 @@ use Rattle.vector.proofs.Stores.{length-puts}
 use Rattle.linear.specs.Elimination.{eliminated}
 use Rattle.linear.specs.Substitution.{solution}
 use Rattle.tableau.specs.Tableau.{bOf}
-use Rattle.stages.specs.Layout.{candidateAt, errorAt, stageStateAt, currentAt, timePartialAt, linearRhsAt, jacobianAt, factorsAt, stagesAt, stageAt, rhsStagesAt, rhsStageAt}
-use Rattle.stages.specs.Method.{stageState, rightHandSide, stageValue, errorWeight, newState, errorOf, plusProducts}
+use Rattle.stages.specs.Layout.{candidateAt, errorAt, stageStateAt, currentAt, timePartialAt, jacobianAt, factorsAt, stagesAt, stageAt, rhsStagesAt, rhsStageAt}
+use Rattle.stages.specs.Method.{rightHandSide, stageValue, errorWeight, newState, errorOf, plusProducts}
 use Rattle.stages.specs.Memory.{withStageState, withStageSolved, withStageAdded}
 use Rattle.stages.proofs.Sums.{new-same, error-same}
 use Rattle.stages.proofs.Writes.{state-written, solved-length, solved-left, solved-written, added-length, added-left, added-candidate, added-error}

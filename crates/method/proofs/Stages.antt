@@ -2,9 +2,9 @@
 use Prim.Native.Nat.{ℕ, zero, suc, _+_, _-_, _<_}
 use native.Mathlib.Omega.{arith}
 use mathlib.Core.Path.{_≡_, refl, sym, ap, _∙_, subst}
-use mathlib.Core.Bool.{Bool, true, false, not, cond, _&&_}
+use mathlib.Core.Bool.{Bool, false, not, cond, _&&_}
 use mathlib.Core.List.{List, [], _∷_, _++_, append-assoc}
-use mathlib.Core.Option.{Option, none, some}
+use mathlib.Core.Option.{none, some}
 use lib.Dec.{eqb, ltb}
 use lib.ListN.{length, getD}
 use lib.Ieee.{Float, nan, eq}
@@ -26,7 +26,7 @@ use Rattle.stages.specs.Layout.{candidateAt, errorAt, stageStateAt, currentAt, 
 use Rattle.stages.specs.Method.{stageTime, newState, errorOf}
 use Rattle.stages.specs.Memory.{component, withStageState}
 use Rattle.attempts.specs.declared.Ask.the-variants.{Stage}
-use Rattle.attempts.specs.Marks.{noting, withErrorShown, counting, countingSolve}
+use Rattle.attempts.specs.Marks.{noting, withErrorShown, counting}
 use Rattle.attempts.specs.Attempt.{Scratch, Stopped, onWork, onMarks, halt, show, finish, askStage, openStage, nextStage, solveStage, firstStage, written, resume}
 use Rattle.rosenbrock.specs.declared.Fixed.{Fixed}
 use Rattle.rosenbrock.specs.declared.Progress.{Progress}
@@ -36,8 +36,8 @@ use Rattle.rosenbrock.specs.Calls.{givenBy, progressAfter, settle}
 use Rattle.method.specs.Step.{Problem, Attempted, Evaluated, matrix, stateOf, reused, derivativeOf, stageOf, stages, derivatives, candidate, error}
 use Rattle.method.specs.Schedule.{Item, test, at, finiteTest, stageDerivativeItems, stageItems, stagesItems, endItems, asksFor, endsIn}
 use Rattle.method.specs.Conversation.{answerTo, Conversation, lastAnswer, shownError, stepView}
-use Rattle.method.proofs.Conforms.{stepOf, Ready, Answerable, stage-answerable, supplied, Conforms, goes-on, chooses, chosen, not-chosen, asks-rhs}
-use Rattle.method.proofs.Holds.{Sums, Factors}
+use Rattle.method.proofs.Conforms.{stepOf, Ready, Answerable, stage-answerable, Conforms, goes-on, chooses, chosen, not-chosen, asks-rhs}
+use Rattle.method.proofs.Holds.{Sums}
 use Rattle.method.proofs.Solving.{Solving, state-there, state-leaves, derivative-there, derivative-leaves, stage-there, stage-leaves, added-leaves}
 
 module _ (fx : Fixed) (file : List ℕ) (problem : Problem) (x : Progress) (m : Lent) (e : Evaluated) (ready : Ready fx file problem m) (moves : eq (x .step) 𝟎 ≡ false) where
@@ -183,7 +183,7 @@ module _ (fx : Fixed) (file : List ℕ) (problem : Problem) (x : Progress) (m : 
       (λ zero-c.
       let long = k .sums .long in
       let is : table (component w (currentAt n)) n ≡ derivativeOf p e 0 (stages p e 0) =
-              sym (part-table nan (currentAt n) n w (omega arith)) ∙ k .inputs .derivative-there ∙ yes _ zero-c refl in
+      sym (part-table nan (currentAt n) n w (omega arith)) ∙ k .inputs .derivative-there ∙ yes _ zero-c refl in
       solves 0 below items then _ (derivative-there p e s 0 below w (sc .pivots) (component w (currentAt n)) is k)
       (derivative-leaves p e s 0 below w (sc .pivots) (component w (currentAt n)) is k))
       (λ other-c. asks-stage 0 below items then _ other-c there k)))

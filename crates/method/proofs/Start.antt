@@ -26,7 +26,7 @@ use Rattle.rosenbrock.specs.Answers.{Lent, kindOf, stateAsked}
 use Rattle.rosenbrock.specs.Calls.{givenBy}
 use Rattle.method.specs.Step as step
 use Rattle.method.specs.Step.{Problem, Attempted, Evaluated, Differentiation, stages, derivatives, partialAt}
-use Rattle.method.specs.Schedule.{Item, unlessCached, derivativeItems, jacobianItems, partialItems}
+use Rattle.method.specs.Schedule.{unlessCached, derivativeItems, jacobianItems, partialItems}
 use Rattle.method.specs.Conversation.{answerTo, ifValid}
 use Rattle.method.proofs.Conforms.{stepOf, Ready, derivative-answerable, Conforms, goes-on, chosen, not-chosen, asks-rhs}
 use Rattle.method.proofs.Holds.{Sums, sums-kept}
@@ -78,9 +78,10 @@ module _ (fx : Fixed) (file : List ℕ) (problem : Problem) (x : Progress) (m : 
       (part-stored w (currentAt n) f n nan (ready .sized .of-f (x .time) (m .state)) (omega arith) ∙ is refl)
       (record {
         if-cached =
-            λ q.
-            (left (jacobianAt n) (n * n) nan (omega arith) (inr (omega arith)) ∙ h .if-cached q .0,
-            left (timePartialAt n) n nan (omega arith) (inr (omega arith)) ∙ h .if-cached q .1);
+            λ q. (
+              left (jacobianAt n) (n * n) nan (omega arith) (inr (omega arith)) ∙ h .if-cached q .0,
+              left (timePartialAt n) n nan (omega arith) (inr (omega arith)) ∙ h .if-cached q .1,
+            );
         if-not = h .if-not;
       })
       rows)))

@@ -1,5 +1,5 @@
 -- What each of the stages' functions on the lent work writes, in terms of what the parts that it reads hold, and what it leaves. Assumes nothing.
-use Prim.Native.Nat.{ℕ, suc, _+_, _*_, _<_, _≤_}
+use Prim.Native.Nat.{ℕ, _+_, _*_, _<_, _≤_}
 use native.Mathlib.Omega.{arith}
 use mathlib.Core.Path.{_≡_, sym, ap, ap₂, _∙_}
 use mathlib.Core.List.{List}
@@ -10,7 +10,7 @@ use lib.Ieee.{Float, nan}
 use Rattle.float.specs.Operators.{_⊕_, _⊗_}
 use Rattle.vector.specs.Lists.{el, table}
 use Rattle.vector.specs.Matrices.{entry}
-use Rattle.vector.specs.Parts.{part, puts}
+use Rattle.vector.specs.Parts.{part}
 use Rattle.vector.proofs.Lists.{table-same, table-own}
 use Rattle.vector.proofs.Matrices.{length-rows}
 use Rattle.vector.proofs.Parts.{part-at, part-puts, part-left}
@@ -73,15 +73,15 @@ module _ (n s : ℕ) (t : Tableau) (w : List Float) where
         let l₂ : length w₂ ≡ length w₁ = length-puts w₁ _ _ n in
         let b = table (rightHandSide t h i (entry n u) (el f) (el fₜ)) n in
         let rhs : part (linearRhsAt n) n w₁ ≡ b =
-                part-puts w (linearRhsAt n) _ n nan (omega arith)
-                ∙ table-same _ _ n
-                (λ k q.
-                rhs-same t i k (stageIn n w) (entry n u) (λ j r. read-stage n i w u j k eu r q) h (component w (rhsStageAt n s i)) (el f)
-                (component w (timePartialAt n)) (el fₜ) (read (rhsStageAt n s i) n w f k ef q) (read (timePartialAt n) n w fₜ k et q)) in
+        part-puts w (linearRhsAt n) _ n nan (omega arith)
+        ∙ table-same _ _ n
+        (λ k q.
+        rhs-same t i k (stageIn n w) (entry n u) (λ j r. read-stage n i w u j k eu r q) h (component w (rhsStageAt n s i)) (el f)
+        (component w (timePartialAt n)) (el fₜ) (read (rhsStageAt n s i) n w f k ef q) (read (timePartialAt n) n w fₜ k et q)) in
         let same : part (factorsAt n) (n * n) w₁ ≡ factors =
-                part-left w (linearRhsAt n) _ n (factorsAt n) (n * n) nan (omega arith) (inr (omega arith)) ∙ ea in
+        part-left w (linearRhsAt n) _ n (factorsAt n) (n * n) nan (omega arith) (inr (omega arith)) ∙ ea in
         let x : solution n (part (factorsAt n) (n * n) w₁) pivots (part (linearRhsAt n) n w₁) ≡ solution n factors pivots b =
-                ap₂ (λ (a r : List Float). solution n a pivots r) same rhs in
+        ap₂ (λ (a r : List Float). solution n a pivots r) same rhs in
         part-puts w₂ (stageAt n i) _ n nan (omega arith)
         ∙ table-same _ _ n
         (λ k q.
