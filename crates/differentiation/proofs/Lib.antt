@@ -1,2 +1,3 @@
 -- Laws that dependents may cite.
 pub mod Lengths
+pub mod Writes

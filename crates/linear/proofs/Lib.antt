@@ -6,6 +6,7 @@ pub mod Exchanges
 pub mod Updates
 pub mod Progress
 pub mod Answers
+pub mod Outcomes
 pub mod Substitutions
 pub mod Triangular
 pub mod Regular

@@ -2,3 +2,5 @@
 pub mod Lengths
 pub mod Sums
 pub mod Steps
+pub mod Writes
+pub mod Agreement

@@ -5,4 +5,5 @@ pub mod Columns
 pub mod Fronts
 pub mod Parts
 pub mod Matrices
+pub mod ColumnEntries
 mod Four
