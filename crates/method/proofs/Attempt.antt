@@ -112,7 +112,8 @@ module _ (fx : Fixed) (file : List ℕ) (problem : Problem) (x : Progress) (m : 
     empty at k = ap (λ (b : Bool). cond b [] (part at k (begun (givenBy fx file x m) (m .work)))) still
 
     shows-rest : settle fx x m (show (givenBy fx file x m) (onWork (begun (givenBy fx file x m)) (scratchBy oneAttempt x m))) .answer ≡ shown (restView p (x .end))
-    unfolding show halt onMarks onWork noting withErrorShown settle progressAfter requestAfter stageAfter answers.answerOf viewOf candidateOf errorShown shownPart stagesShown rhsStagesShown jacobianShown timePartialShown restView shownError givenBy scratchBy
+    unfolding show halt onMarks onWork noting withErrorShown settle progressAfter requestAfter stageAfter answers.answerOf viewOf
+        candidateOf errorShown shownPart stagesShown rhsStagesShown jacobianShown timePartialShown restView shownError givenBy scratchBy
     shows-rest =
         let counts = tableauOf file .counts in
         let v = begun-candidate fx file x m state long in

@@ -17,12 +17,6 @@ use Rattle.stages.specs.Layout.{candidateAt, errorAt, currentAt, timePartialAt,
 use Rattle.stages.specs.Method.{newState, errorOf}
 use Rattle.method.specs.Step.{Attempted, Evaluated, matrix, stages, derivatives}
 
--- a store of k doubles from `at` on that leaves the derivative, the time partial and the Jacobian
-pub data Aside (n at k : ℕ) : Type 0 where
-  before : at + k ≤ 3 * n → Aside n at k
-  between : 5 * n ≤ at → at + k ≤ 8 * n → Aside n at k
-  after : 8 * n + n * n ≤ at → Aside n at k
-
 module _ (p : Attempted) (e : Evaluated) where
   -- the derivative, the Jacobian and the time partial
   pub record Inputs (w : List Float) : Type 0 where
@@ -63,26 +57,22 @@ module _ (p : Attempted) (e : Evaluated) where
             derivatives-there = kept (rhsStagesAt (p .n) s) (j * p .n) _ (omega arith) (inr (omega arith)) (h .derivatives-there);
           }
 
-      pub inputs-kept : Aside (p .n) at k → Inputs w → Inputs (puts w at f k)
-      inputs-kept (before b) h =
+      -- before the derivative or after the Jacobian
+      pub inputs-kept : (at + k ≤ 3 * p .n) ⊎ (8 * p .n + p .n * p .n ≤ at) → Inputs w → Inputs (puts w at f k)
+      inputs-kept (inl b) h =
           record {
             derivative-there = kept (currentAt (p .n)) (p .n) _ (omega arith) (inr (omega arith)) (h .derivative-there);
             jacobian-there = kept (jacobianAt (p .n)) (p .n * p .n) _ (omega arith) (inr (omega arith)) (h .jacobian-there);
             partial-there = kept (timePartialAt (p .n)) (p .n) _ (omega arith) (inr (omega arith)) (h .partial-there);
           }
-      inputs-kept (between b c) h =
-          record {
-            derivative-there = kept (currentAt (p .n)) (p .n) _ (omega arith) (inl (omega arith)) (h .derivative-there);
-            jacobian-there = kept (jacobianAt (p .n)) (p .n * p .n) _ (omega arith) (inr (omega arith)) (h .jacobian-there);
-            partial-there = kept (timePartialAt (p .n)) (p .n) _ (omega arith) (inl (omega arith)) (h .partial-there);
-          }
-      inputs-kept (after b) h =
+      inputs-kept (inr b) h =
           record {
             derivative-there = kept (currentAt (p .n)) (p .n) _ (omega arith) (inl (omega arith)) (h .derivative-there);
             jacobian-there = kept (jacobianAt (p .n)) (p .n * p .n) _ (omega arith) (inl (omega arith)) (h .jacobian-there);
             partial-there = kept (timePartialAt (p .n)) (p .n) _ (omega arith) (inl (omega arith)) (h .partial-there);
           }
 
+      -- before the matrix or after it
       pub factors-kept : (pivots : List ℕ) → (at + k ≤ 8 * p .n + p .n * p .n) ⊎ (8 * p .n + 2 * (p .n * p .n) ≤ at) → Factors w pivots → Factors (puts w at f k) pivots
       factors-kept pivots o h =
           let apart = ⊎-elim {C = (factorsAt (p .n) + p .n * p .n ≤ at) ⊎ (at + k ≤ factorsAt (p .n))} (λ a. inr a) (λ a. inl (omega arith)) o in

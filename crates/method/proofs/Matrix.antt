@@ -4,6 +4,7 @@ use native.Mathlib.Omega.{arith}
 use mathlib.Core.Path.{_≡_, ap, _∙_}
 use mathlib.Core.Bool.{false}
 use mathlib.Core.List.{List, [], _++_}
+use mathlib.Core.Logic.{inr}
 use lib.Dec.{eqb}
 use lib.ListN.{length}
 use lib.Ieee.{Float, eq}
@@ -31,7 +32,7 @@ use Rattle.rosenbrock.specs.Calls.{givenBy}
 use Rattle.method.specs.Step.{Problem, Attempted, Evaluated, matrix}
 use Rattle.method.specs.Schedule.{matrixItems, stagesItems, endItems}
 use Rattle.method.proofs.Conforms.{stepOf, Ready, Conforms, goes-on}
-use Rattle.method.proofs.Holds.{Sums, Inputs, after, sums-kept, inputs-kept}
+use Rattle.method.proofs.Holds.{Sums, Inputs, sums-kept, inputs-kept}
 use Rattle.method.proofs.Solving.{Solving}
 use Rattle.method.proofs.Stages.{first-stage}
 
@@ -49,7 +50,7 @@ module _ (p : Attempted) (e : Evaluated) (s : ℕ) (w : List Float) (sums : Sums
 
   inputs-left : Inputs p e v
   unfolding withMatrix
-  inputs-left = inputs-kept p e s w (sums .long) (factorsAt (p .n)) _ (p .n * p .n) (after (omega arith)) inputs
+  inputs-left = inputs-kept p e s w (sums .long) (factorsAt (p .n)) _ (p .n * p .n) (inr (omega arith)) inputs
 
   length-matrix : length (matrix p e) ≡ p .n * p .n
   unfolding matrix
@@ -66,7 +67,7 @@ module _ (p : Attempted) (e : Evaluated) (s : ℕ) (w : List Float) (sums : Sums
       let o = raw-succeeds n a pivots done in
       record {
         sums = sums-kept p e s v long (factorsAt n) _ (n * n) 0 0 0 (omega arith) (omega arith) (omega arith) (omega arith) sums-left;
-        inputs = inputs-kept p e s v long (factorsAt n) _ (n * n) (after (omega arith)) inputs-left;
+        inputs = inputs-kept p e s v long (factorsAt n) _ (n * n) (inr (omega arith)) inputs-left;
         factors =
             record {
               factors-there =

@@ -2,7 +2,7 @@
 use Prim.Native.Nat.{ℕ, _+_, _*_, _≤_}
 use native.Mathlib.Omega.{arith}
 use mathlib.Core.Path.{_≡_, refl, ap, _∙_}
-use mathlib.Core.Bool.{false}
+use mathlib.Core.Bool.{true, false}
 use mathlib.Core.List.{List, _∷_, _++_, append-assoc}
 use mathlib.Core.Logic.{inl, inr}
 use lib.ListN.{length}
@@ -31,7 +31,7 @@ use Rattle.rosenbrock.specs.Calls.{givenBy}
 use Rattle.method.specs.Step.{Problem, Attempted, Evaluated, probedPartial, partialAt}
 use Rattle.method.specs.Schedule.{Item, finiteTest, probeItems, partialItems, matrixItems, stagesItems, endItems}
 use Rattle.method.specs.Conversation.{answerTo}
-use Rattle.method.proofs.Conforms.{stepOf, Ready, partial-answerable, first-answerable, second-answerable, Conforms, stops, goes-on, chooses, asks, asks-rhs}
+use Rattle.method.proofs.Conforms.{stepOf, Ready, supplied, partial-answerable, first-answerable, second-answerable, Conforms, stops, goes-on, chooses, asks, asks-rhs}
 use Rattle.method.proofs.Holds.{Sums, sums-kept}
 use Rattle.method.proofs.Matrix.{factors}
 
@@ -102,13 +102,15 @@ module _ (fx : Fixed) (file : List ℕ) (problem : Problem) (x : Progress) (m : 
       let known = known-kept p e (fx .s) (sc .work) (timePartialAt n) (el v) n (omega arith) (omega arith) h in
       let first = part-stored (sc .work) (timePartialAt n) v n nan (ready .sized .of-f a (m .state)) (omega arith) in
       let long₁ = known .sums .long in
+      let y = written (givenBy fx file x m) (timePartialAt n) n v (supplied a (onMarks (noting (withProbes true a b)) sc)) in
+      let z = written (givenBy fx file x m) (probeRhsAt n) n u (supplied b y) in
       asks-rhs ready FirstProbe a _ _ (m .state) refl (first-answerable fx _ long rows)
       (goes-on nonFinite _ _ _ refl
       (λ _.
-      asks-rhs ready SecondProbe b _ _ (m .state) refl (second-answerable fx _ long₁ rows)
+      asks-rhs ready SecondProbe b y _ (m .state) refl (second-answerable fx _ long₁ rows)
       (goes-on nonFinite _ _ _ refl
       (λ _.
-      combines _ v u (known-kept p e (fx .s) w (probeRhsAt n) (el u) n (omega arith) (omega arith) known)
+      combines z v u (known-kept p e (fx .s) w (probeRhsAt n) (el u) n (omega arith) (omega arith) known)
       (part-left w (probeRhsAt n) (el u) n (timePartialAt n) n nan (omega arith) (inl (omega arith)) ∙ first)
       (part-stored w (probeRhsAt n) u n nan (ready .sized .of-f b (m .state)) (omega arith)) is rows))))
 

@@ -25,7 +25,7 @@ use Rattle.stages.specs.Memory.{withStageState, withStageSolved, withStageAdded
 use Rattle.stages.proofs.Agreement.{new-same, error-same}
 use Rattle.stages.proofs.Writes.{state-written, solved-length, solved-left, solved-written, added-length, added-left, added-candidate, added-error}
 use Rattle.method.specs.Step.{Attempted, Evaluated, matrix, solve, stateOf, derivativeOf, stageOf, stages, derivatives}
-use Rattle.method.proofs.Holds.{Sums, Inputs, Factors, before, after, sums-kept, inputs-kept, factors-kept}
+use Rattle.method.proofs.Holds.{Sums, Inputs, Factors, sums-kept, inputs-kept, factors-kept}
 
 module _ (p : Attempted) (e : Evaluated) where
   length-stage : (i : ℕ) (u : List Float) → length (stageOf p e i u) ≡ p .n
@@ -94,7 +94,7 @@ module _ (p : Attempted) (e : Evaluated) where
           let long = h .sums .long in
           record {
             sums = sums-kept p e s w long (stageStateAt (p .n)) _ (p .n) i i i (omega arith) (omega arith) (omega arith) (omega arith) (h .sums);
-            inputs = inputs-kept p e s w long (stageStateAt (p .n)) _ (p .n) (before (omega arith)) (h .inputs);
+            inputs = inputs-kept p e s w long (stageStateAt (p .n)) _ (p .n) (inl (omega arith)) (h .inputs);
             factors = factors-kept p e s w long (stageStateAt (p .n)) _ (p .n) pivots (inl (omega arith)) (h .factors);
           }
 
@@ -124,7 +124,7 @@ module _ (p : Attempted) (e : Evaluated) where
                         (part-left w _ f (p .n) (rhsStagesAt (p .n) s) (i * p .n) nan (omega arith) (inl (omega arith)) ∙ h .sums .derivatives-there)
                         derivative-there;
                   };
-              inputs = inputs-kept p e s w long (rhsStageAt (p .n) s i) f (p .n) (after (omega arith)) (h .inputs);
+              inputs = inputs-kept p e s w long (rhsStageAt (p .n) s i) f (p .n) (inr (omega arith)) (h .inputs);
               factors = factors-kept p e s w long (rhsStageAt (p .n) s i) f (p .n) pivots (inr (omega arith)) (h .factors);
             }
 

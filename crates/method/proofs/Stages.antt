@@ -67,7 +67,8 @@ module _ (fx : Fixed) (file : List ℕ) (problem : Problem) (x : Progress) (m : 
   error-whole w h = h .error-there ∙ ap (λ (i : ℕ). table (errorOf (tableauOf file) (entry (fx .n) (stages p e i)) i) (fx .n)) all-stages
 
   shows : (sc : Scratch) → Fits (fx .s) (fx .s) (fx .s) sc → Meets [] (show (givenBy fx file x m) sc)
-  unfolding Conversation asksFor endsIn lastAnswer show halt onMarks noting withErrorShown settle progressAfter requestAfter stageAfter answerOf viewOf candidateOf errorShown shownPart stagesShown rhsStagesShown jacobianShown timePartialShown stepView shownError givenBy
+  unfolding Conversation asksFor endsIn lastAnswer show halt onMarks noting withErrorShown settle progressAfter requestAfter stageAfter answerOf
+      viewOf candidateOf errorShown shownPart stagesShown rhsStagesShown jacobianShown timePartialShown stepView shownError givenBy
   shows sc h =
       let counts = tableauOf file .counts in
       let v = candidate-whole (sc .work) (h .sums) in
