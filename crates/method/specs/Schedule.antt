@@ -79,7 +79,7 @@ module _ (p : Attempted) (e : Evaluated) where
 
   -- ---- the stages
 
-  -- the derivative of stage i at the state z, unless it is reused
+  -- the derivative of stage i, u being the stages before it, unless it is reused
   unfoldable pub stageDerivativeItems : ℕ → List Float → List Item
   stageDerivativeItems i u =
       let time = stageTime (p .tableau) (p .t) (p .h) i in

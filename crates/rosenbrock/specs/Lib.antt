@@ -4,3 +4,4 @@ pub mod Tests
 pub mod Calls
 pub mod Readers
 pub mod Stepper
+pub mod Contracts

@@ -59,6 +59,27 @@ pub struct RosenbrockStepper {
     pub statistics: StepStatistics,
 }
 
+// What a call answers. What is asked and what is shown stand in the record and in the lent memory, and
+// the readers tell it.
+pub enum Answer {
+    Asked,
+    Shown,
+    Done,
+    Refused(u32),
+}
+
+// The record after a call, and the answer.
+pub struct Outcome {
+    pub stepper: RosenbrockStepper,
+    pub answer: Answer,
+}
+
+// A new stepper, or the number of a refusal.
+pub enum Making {
+    Made(RosenbrockStepper),
+    Refused(u32),
+}
+
 // ---- the first tests
 
 fn needed_work(n: usize, s: usize) -> usize
