@@ -2,8 +2,8 @@
 -- pivots: neither time, step and end nor the state are among what it hands back. What it computes is the method's (stages/specs,
 -- differentiation/specs). Definitions only.
 use Prim.Native.Nat.{ℕ, suc, _*_}
-use mathlib.Core.Bool.{Bool, true, false, not, cond, _&&_}
-use mathlib.Core.List.{List, [], _∷_}
+use mathlib.Core.Bool.{Bool, true, false, not, _&&_}
+use mathlib.Core.List.{List}
 use lib.Dec.{eqb}
 use lib.Ieee.{Float, eq}
 use lib.Ieee.Scale.{finite}
@@ -22,8 +22,6 @@ use Rattle.stages.specs.Memory.{component, withStageState, withStageSolved, wit
 use Rattle.differentiation.specs.Differences.{rise}
 use Rattle.differentiation.specs.Memory.{withProbeState, withColumn, withPartial}
 use Rattle.attempts.specs.declared.Setting.{Setting}
-use Rattle.attempts.specs.declared.Memo.{Memo}
-use Rattle.attempts.specs.declared.Counted.{Counted}
 use Rattle.attempts.specs.declared.Marks.{Marks}
 use Rattle.attempts.specs.declared.Ask.{Ask}
 use Rattle.attempts.specs.declared.Ask.the-variants.{Derivative, Jacobian, TimePartial, FirstProbe, SecondProbe, Column, Stage}

@@ -12,7 +12,7 @@ use Rattle.vector.specs.Lists.{el, table}
 use Rattle.vector.specs.Parts.{part}
 use Rattle.vector.proofs.Lists.{table-same}
 use Rattle.vector.proofs.Parts.{part-puts}
-use Rattle.vector.proofs.ColumnEntries.{length-column, column-other, column-held, part-beside}
+use Rattle.vector.proofs.Columns.{column-other, column-held, part-beside}
 use Rattle.time_difference.specs.Probes.{partial}
 use Rattle.stages.specs.Layout.{currentAt, timePartialAt, probeStateAt, probeRhsAt, jacobianAt}
 use Rattle.stages.proofs.Writes.{read}
@@ -26,10 +26,6 @@ module _ (n : ℕ) (w : List Float) where
 
   -- ---- column k of the Jacobian
   module _ (k : ℕ) (by : Float) (inside : k < n) where
-    pub column-length : length (withColumn n k by w) ≡ length w
-    unfolding withColumn
-    column-length = length-column nan w (jacobianAt n) n k _ n
-
     pub column-left : (a c : ℕ) → a + c ≤ length w → (a + c ≤ jacobianAt n) ⊎ (jacobianAt n + n * n ≤ a) → part a c (withColumn n k by w) ≡ part a c w
     unfolding withColumn
     column-left a c h o = part-beside nan w (jacobianAt n) n k _ n a c (omega arith) inside h o

@@ -1,16 +1,15 @@
 -- An attempt is a step of the method: the proof of the claim at the end of Conversation. Assumes nothing.
-use Prim.Native.Nat.{ℕ, _*_, _≤_}
+use Prim.Native.Nat.{ℕ, _*_}
 use native.Mathlib.Omega.{arith}
 use mathlib.Core.Path.{_≡_, refl, sym, ap, _∙_, subst}
 use mathlib.Core.Bool.{Bool, true, false, cond, _&&_, true≢false}
 use mathlib.Core.List.{List, [], _∷_, _++_}
 use mathlib.Core.Option.{none, some}
-use lib.Dec.{eqb, leb}
+use lib.Dec.{eqb}
 use lib.ListN.{length}
 use lib.Ieee.{Float, eq}
-use borrow.Author.Tests.{eqb-true, leb-true, not-false}
 use Rattle.float.specs.Operators.{_⊕_, _⊖_, 𝟎}
-use Rattle.float.proofs.Cases.{by, and-left, and-right}
+use Rattle.float.proofs.Cases.{by}
 use Rattle.vector.specs.Parts.{part}
 use Rattle.vector.proofs.Lists.{table-replicate}
 use Rattle.stepping.specs.Refusals.{firstOf}
@@ -25,8 +24,9 @@ use Rattle.rosenbrock.specs.declared.Progress.{Progress}
 use Rattle.rosenbrock.specs.Requests.{requestAfter, stageAfter}
 use Rattle.rosenbrock.specs.Answers.{Lent, Request, derivative, asked, shown, candidateOf, errorShown, shownPart, stagesShown, rhsStagesShown, jacobianShown, timePartialShown, viewOf}
 use Rattle.rosenbrock.specs.Answers as answers
-use Rattle.rosenbrock.specs.Tests.{shapeFits, attemptTests, stepTests, decisionTests}
+use Rattle.rosenbrock.specs.Tests.{attemptTests, stepTests, decisionTests}
 use Rattle.rosenbrock.specs.Calls.{Out, refusal, guarded, givenBy, scratchBy, progressAfter, settle, opening, opened, attemptBy, attemptOf, rejected, rejectOf}
+use Rattle.rosenbrock.proofs.Fitting.{LentShape, fits-passed}
 use Rattle.method.specs.Step as method
 use Rattle.method.specs.Step.{Problem, Attempted, Evaluated, Differentiation, Cache, cached, nothing, Caches, orElse, evaluated, derivativeAt, differentiationAt, partialAt}
 use Rattle.method.specs.Schedule.{unlessCached, derivativeItems, jacobianItems, partialItems, schedule, asksFor}
@@ -37,49 +37,21 @@ use Rattle.method.proofs.Start.{evaluates, begun-candidate, begun-error
 
 -- ---- what the tests of an attempt establish
 
--- 1: the sizes
-record Shape (n s state work pivots : ℕ) : Type 0 where
-  some-components : 1 ≤ n
-  few-components : n ≤ 32
-  some-stages : 1 ≤ s
-  few-stages : s ≤ 8
-  state-fits : state ≡ n
-  work-fits : work ≡ neededWork n s
-  pivots-fit : pivots ≡ n
-
-shaped : (n s state work pivots : ℕ) → shapeFits n s state work pivots ≡ true → Shape n s state work pivots
-unfolding shapeFits
-shaped n s state work pivots e =
-    let a₂ = and-right (leb 1 n) _ e in
-    let a₃ = and-right (leb n 32) _ a₂ in
-    let a₄ = and-right (leb 1 s) _ a₃ in
-    let a₅ = and-right (leb s 8) _ a₄ in
-    let a₆ = and-right (eqb state n) _ a₅ in
-    record {
-      some-components = leb-true 1 n (and-left _ _ e);
-      few-components = leb-true n 32 (and-left _ _ a₂);
-      some-stages = leb-true 1 s (and-left _ _ a₃);
-      few-stages = leb-true s 8 (and-left _ _ a₄);
-      state-fits = eqb-true state n (and-left _ _ a₅);
-      work-fits = eqb-true work (neededWork n s) (and-left _ _ a₆);
-      pivots-fit = eqb-true pivots n (and-right (eqb work (neededWork n s)) _ a₆);
-    }
-
 module _ (fx : Fixed) (file : List ℕ) (x : Progress) (m : Lent) (h : firstOf (attemptTests fx file x m) ≡ 0) where
-  shape : Shape (fx .n) (fx .s) (length (m .state)) (length (m .work)) (length (m .pivots))
-  shape = shaped _ _ _ _ _ (not-false _ (passed 0 _ _ h .0))
+  shape : LentShape fx m
+  shape = fits-passed fx x m _ h .0 .shape
 
   ready : (problem : Problem) → Sized (fx .n) problem → Ready fx file problem m
   ready problem sized =
-      let from-file = passed 0 _ _ (passed 0 _ _ h .1) .1 in
+      let from-file = fits-passed fx x m _ h .1 in
       let supported = passed 11 _ _ from-file in
       let staged = passed 2 _ _ (supported .1) in
       record {
-        some = shape .some-components;
-        small = shape .few-components;
-        staged = shape .some-stages;
-        few = shape .few-stages;
-        state = shape .state-fits;
+        some = shape .n-from-1;
+        small = shape .n-to-32;
+        staged = shape .s-from-1;
+        few = shape .s-to-8;
+        state = shape .of-state;
         file-accepted = supported .0;
         file-supported = staged .0;
         file-stages = passed 0 _ _ (staged .1) .0;
@@ -181,8 +153,8 @@ attempt-is-step fx file problem step host-J host-fₜ x m passes steps sized =
     subst (λ (o : Out). Conversation fx file problem (requestsOf p (y .end) (cachesIn fx y m)) o (answerOf p (y .end) (cachesIn fx y m)))
     (opens fx file step host-J host-fₜ x m passes steps)
     (by (eq (y .step) 𝟎)
-    (λ still. rw still (rests fx file problem y m (s .work-fits) (s .state-fits) still))
-    (λ moves. rw moves (goes-through fx file problem y m (s .work-fits) (ready fx file x m passes problem sized) (s .pivots-fit) moves .conversation)))
+    (λ still. rw still (rests fx file problem y m (s .of-work) (s .of-state) still))
+    (λ moves. rw moves (goes-through fx file problem y m (s .of-work) (ready fx file x m passes problem sized) (s .of-pivots) moves .conversation)))
 
 -- ---- what it means for the requests
 

@@ -18,7 +18,8 @@ use Rattle.vector.proofs.Stores.{puts-left}
 use Rattle.stages.specs.Layout.{candidateAt, errorAt, currentAt, probeRhsAt, jacobianAt, stagesAt, rhsStagesAt}
 use Rattle.differentiation.specs.Differences.{rise, quotient}
 use Rattle.differentiation.specs.Memory.{withColumn}
-use Rattle.differentiation.proofs.Writes.{column-length, column-left, column-apart, column-written}
+use Rattle.differentiation.proofs.Lengths.{length-column}
+use Rattle.differentiation.proofs.Writes.{column-left, column-apart, column-written}
 use Rattle.method.specs.Step.{Attempted, Evaluated, probedState, probedJacobian}
 use Rattle.method.proofs.Holds.{Sums, sums-kept}
 
@@ -54,7 +55,7 @@ module _ (p : Attempted) (e : Evaluated) (s : ℕ) where
       record {
         sums =
             record {
-              long = column-length n w k (rise (el (p .y) k)) below ∙ long;
+              long = length-column n k (rise (el (p .y) k)) w ∙ long;
               candidate-there = left (candidateAt n) n (omega arith) (inl (omega arith)) ∙ h .sums .candidate-there;
               error-there = left (errorAt n) n (omega arith) (inl (omega arith)) ∙ h .sums .error-there;
               stages-there = left (stagesAt n) (0 * n) (omega arith) (inr (omega arith)) ∙ h .sums .stages-there;

@@ -6,8 +6,7 @@ use mathlib.Core.List.{List, _∷_, _++_}
 use lib.Dec.{eqb, ltb}
 use lib.ListN.{length, getD}
 use lib.Ieee.{Float}
-use borrow.Author.Tests.{lt-ltb, le-leb, eq-eqb}
-use Rattle.float.proofs.Cases.{both}
+use borrow.Author.Tests.{lt-ltb, eq-eqb}
 use Rattle.vector.specs.Lists.{every}
 use Rattle.stepping.specs.Refusals.{_when_, firstOf}
 use Rattle.stepping.proofs.Refusals.{later, none, is-answered}
@@ -21,10 +20,12 @@ use Rattle.attempts.specs.Marks.{nothingCounted, withRequestTime, counting, not
 use Rattle.attempts.specs.Attempt.{Scratch, scratch, Stopped, onMarks, halt, refuse, ask, askRhs, choose, provided, resume, wanted}
 use Rattle.rosenbrock.specs.declared.Fixed.{Fixed}
 use Rattle.rosenbrock.specs.declared.Progress.{Progress}
-use Rattle.rosenbrock.specs.Requests.{isOpen, askOf, askNumber, askStage, requestAfter, stageAfter, requestFits}
+use Rattle.rosenbrock.specs.Requests.{askOf, askNumber, askStage, requestAfter, stageAfter, requestFits}
 use Rattle.rosenbrock.specs.Answers.{Lent, lending, kindOf, stateAsked, requestOf, asked, answerOf}
 use Rattle.rosenbrock.specs.Tests.{shapeFits, pivotsUnfit, supplyTests}
 use Rattle.rosenbrock.specs.Calls.{Out, refusal, guarded, givenBy, scratchBy, progressAfter, settle, supplyOf}
+use Rattle.rosenbrock.proofs.Requests.{read-back, asked-open}
+use Rattle.rosenbrock.proofs.Fitting.{shape-fits}
 use Rattle.method.specs.Step.{Problem, Attempted, Evaluated}
 use Rattle.method.specs.Schedule.{Item, evaluate, test, asksFor, endsIn}
 use Rattle.method.specs.Conversation.{answerTo, Conversation, lastAnswer, Sized}
@@ -97,27 +98,6 @@ module _ (fx : Fixed) (sc : Scratch) (work : length (sc .work) ≡ neededWork (f
 abbrev pub supplied : Float → Scratch → Scratch
 supplied t sc = scratch (record { memo = withRequestTime t (sc .marks .memo); counted = nothingCounted }) (sc .work) (sc .pivots)
 
--- the record's numbers say what was asked
-same-ask : (a : Ask) → askOf (askNumber a) (askStage a) ≡ a
-unfolding askOf askNumber askStage
-same-ask Derivative = refl
-same-ask Jacobian = refl
-same-ask TimePartial = refl
-same-ask FirstProbe = refl
-same-ask SecondProbe = refl
-same-ask (Column k) = refl
-same-ask (Stage i) = refl
-
-is-open : (a : Ask) → not (isOpen (askNumber a)) ≡ false
-unfolding isOpen askNumber
-is-open Derivative = refl
-is-open Jacobian = refl
-is-open TimePartial = refl
-is-open FirstProbe = refl
-is-open SecondProbe = refl
-is-open (Column k) = refl
-is-open (Stage i) = refl
-
 answer-long : (n : ℕ) (problem : Problem) → Sized n problem → (a : Ask) (t : Float) (z : List Float) → length (answerTo problem (kindOf a) t z) ≡ wanted n a
 unfolding answerTo kindOf wanted
 answer-long n problem s Derivative t z = s .of-f t z
@@ -127,13 +107,6 @@ answer-long n problem s FirstProbe t z = s .of-f t z
 answer-long n problem s SecondProbe t z = s .of-f t z
 answer-long n problem s (Column k) t z = s .of-f t z
 answer-long n problem s (Stage i) t z = s .of-f t z
-
-fits : (n s a b c : ℕ) → 1 ≤ n → n ≤ 32 → 1 ≤ s → s ≤ 8 → a ≡ n → b ≡ neededWork n s → c ≡ n → shapeFits n s a b c ≡ true
-unfolding shapeFits
-fits n s a b c h₁ h₂ h₃ h₄ h₅ h₆ h₇ =
-    both (le-leb 1 n h₁)
-    (both (le-leb n 32 h₂)
-    (both (le-leb 1 s h₃) (both (le-leb s 8 h₄) (both (eq-eqb a n h₅) (both (eq-eqb b (neededWork n s) h₆) (eq-eqb c n h₇))))))
 
 -- a supply of as many values as are wanted passes its tests
 module _ (fx : Fixed) (file : List ℕ) (problem : Problem) (x : Progress) (m : Lent) (ready : Ready fx file problem m) (sc : Scratch) (memo : Memo) (a : Ask)
@@ -148,22 +121,31 @@ module _ (fx : Fixed) (file : List ℕ) (problem : Problem) (x : Progress) (m : 
   unfolding progressAfter
   supply-passes =
       let shape : shapeFits (fx .n) (fx .s) (length (m .state)) (length (sc .work)) (length (sc .pivots)) ≡ true =
-      fits _ _ _ _ _ (ready .some) (ready .small) (ready .staged) (ready .few) (ready .state) (fit .work) (fit .pivots) in
+      shape-fits _ _ _ _ _
+      (record {
+        n-from-1 = ready .some;
+        n-to-32 = ready .small;
+        s-from-1 = ready .staged;
+        s-to-8 = ready .few;
+        of-state = ready .state;
+        of-work = fit .work;
+        of-pivots = fit .pivots;
+      }) in
       let wants : eqb (length values) (wanted (fx .n) (askOf (askNumber a) (askStage a))) ≡ true =
-      eq-eqb _ _ (long ∙ ap (wanted (fx .n)) (sym (same-ask a))) in
+      eq-eqb _ _ (long ∙ ap (wanted (fx .n)) (sym (read-back a))) in
       later _ _ (ap not shape)
       (later _ _ (ap not (fit .request))
       (later _ _ (ready .file-accepted)
       (later _ _ (ready .file-supported)
       (later _ _ (ready .file-stages)
-      (later _ _ (is-open a) (later _ _ (ap not wants) (later _ _ (ap (pivotsUnfit (fx .n) (sc .pivots)) (same-ask a) ∙ fit .rows) none)))))))
+      (later _ _ (ap not (asked-open a)) (later _ _ (ap not wants) (later _ _ (ap (pivotsUnfit (fx .n) (sc .pivots)) (read-back a) ∙ fit .rows) none)))))))
 
   resumed : settle fx x m (resume (givenBy fx file x m) a values (scratch (record { memo = memo; counted = nothingCounted }) (sc .work) (sc .pivots)))
       ≡ supplyOf fx file values Then There
   unfolding supplyOf guarded settle givenBy scratchBy progressAfter
   resumed =
       is-answered (refusal Then There) supply-passes
-      (ap (λ (b : Ask). settle fx x m (resume (givenBy fx file x m) b values (scratch (record { memo = memo; counted = nothingCounted }) (sc .work) (sc .pivots)))) (sym (same-ask a)))
+      (ap (λ (b : Ask). settle fx x m (resume (givenBy fx file x m) b values (scratch (record { memo = memo; counted = nothingCounted }) (sc .work) (sc .pivots)))) (sym (read-back a)))
 
 -- what is asked after a stop is what the items ask for, and the last answer is theirs
 pub record Conforms (fx : Fixed) (file : List ℕ) (problem : Problem) (x : Progress) (m : Lent) (e : Evaluated) (items : List Item) (r : Stopped) : Type 0 where

@@ -1,7 +1,7 @@
 -- Which evaluations a step asks for, in which order, and what is tested between them (the scope paper, From the entry: attempt_to). The first test that
 -- holds ends the step with its number. Definitions only.
 use Prim.Native.Nat.{ℕ, zero, suc}
-use mathlib.Core.Bool.{Bool, true, false, not, cond}
+use mathlib.Core.Bool.{true, false, not, cond}
 use mathlib.Core.List.{List, [], _∷_, _++_}
 use mathlib.Core.Option.{Option, none, some}
 use lib.Dec.{eqb}

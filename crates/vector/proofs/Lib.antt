@@ -1,9 +1,8 @@
 -- Laws that dependents may cite.
 pub mod Lists
 pub mod Stores
-pub mod Columns
 pub mod Fronts
 pub mod Parts
 pub mod Matrices
-pub mod ColumnEntries
+pub mod Columns
 mod Four

@@ -2,12 +2,13 @@
 use Prim.Native.Nat.{ℕ, _+_, _*_, _-_, _≤_, _<_}
 use native.Mathlib.Omega.{arith}
 use mathlib.Core.Path.{_≡_, refl, ap, _∙_}
+use mathlib.Core.Logic.{inl}
 use denote.Ref.{now}
 use borrow.Author.Needs.{needs}
 use lib.ListN.{length, length-set}
 use lib.Ieee.{nan}
 use Rattle.vector.specs.Parts.{putsColumn}
-use Rattle.vector.proofs.Columns.{column-more, column-before, inside-matrix}
+use Rattle.vector.proofs.Columns.{column-more, column-beside, inside-matrix}
 use Rattle.stages.specs.Memory.{component}
 use Rattle.differentiation.specs.Differences.{quotient}
 use Rattle.differentiation.proofs.quotients.Statement.{statement}
@@ -80,8 +81,8 @@ loop-again c =
     let s = c .before .before .before .before .args in
     let w = now (s .work) in
     let f = quotient (s .by) (component w (s .probed)) (component w (s .base)) in
-    let p = column-before nan w (s .to) (s .n) (s .k) f (l .row) (s .probed + l .row) (omega arith) in
-    let q = column-before nan w (s .to) (s .n) (s .k) f (l .row) (s .base + l .row) (omega arith) in
+    let p = column-beside nan w (s .to) (s .n) (s .k) f (l .row) (s .probed + l .row) (omega arith) (omega arith) (inl (omega arith)) in
+    let q = column-beside nan w (s .to) (s .n) (s .k) f (l .row) (s .base + l .row) (omega arith) (omega arith) (inl (omega arith)) in
     (search needs, simp length-set (l .inv .1), rw (l .inv .2) (column-more w (s .to) (s .n) (s .k) f (l .row) (rw (p, q))))
 
 same-length : tie.Need-same-length Inv-loop μ-loop
