@@ -9,7 +9,7 @@ use mathlib.Core.List.{[], _∷_}
 use lib.Dec.{eqb, ltb}
 use lib.Ieee.{Float, inf, binary64, round, ofBits, isNan, lt, le, eq, ne, mul}
 use Rattle.float.specs.Operators.{_⊗_, 𝟎, 𝟏}
-use Rattle.float.specs.Methods.{abs, minNum, signum}
+use Rattle.float.specs.Methods.{abs, minNum, signum, finitePositive}
 use Rattle.float.proofs.Cases.{no, and-no-right, both}
 use Rattle.float.proofs.Order.{lt-not-le, lt-not-gt}
 use Rattle.stepping.specs.Refusals.{firstOf, unlessRefused}
@@ -17,7 +17,7 @@ use Rattle.stepping.proofs.Refusals.{later, none, is-answered}
 use Rattle.settings.specs.declared.ControllerConfig.{ControllerConfig}
 use Rattle.settings.specs.declared.ControllerState.{ControllerState}
 use Rattle.settings.specs.Constants.{fifth, ten}
-use Rattle.settings.specs.Valid.{finitePositive, fraction, validExponents, validFactors, validSteps, validErrors, validHistory, validLimits, validSettings}
+use Rattle.settings.specs.Valid.{fraction, validExponents, validFactors, validSteps, validErrors, validHistory, validLimits, validSettings}
 use Rattle.proposal.specs.declared.StepDecision.{StepDecision}
 use Rattle.proposal.specs.Rules.{withinTolerance, atMinimum, isForced, isAccepted, startFactor, atLeast, atMost, lowerFactor, upperFactor, rejectionCap, repeatedCap, capAfterRejection, factor, upperStep, limited, nextStep, decision}
 use Rattle.controller.specs.declared.AdaptiveController.{AdaptiveController}

@@ -9,3 +9,6 @@ pub mod Numbers
 pub mod Edges
 pub mod Negatives
 pub mod Quotients
+pub mod Positive
+pub mod Halves
+pub mod Finite

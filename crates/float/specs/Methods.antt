@@ -1,9 +1,11 @@
 -- The methods of Rust's f64 as functions of IEEE 754 values: abs (5.5.1), max and min (maxNum and minNum of IEEE 754-2008, 5.3.1), signum, clamp.
 -- is_nan and is_finite are the kit's `isNan` and `finite`. `inf true` is the infinity below 0; in `fin s m e` s says that the sign is minus, a zero's too.
 -- Definitions only.
-use mathlib.Core.Bool.{false, cond}
+use mathlib.Core.Bool.{Bool, false, _&&_, cond}
 use lib.IntN.{pos}
 use lib.Ieee.{Float, nan, inf, fin, isNan, lt}
+use lib.Ieee.Scale.{finite}
+use Rattle.float.specs.Operators.{𝟎}
 
 -- the sign is made plus
 unfoldable pub abs : Float → Float
@@ -27,3 +29,7 @@ signum (fin s m e) = fin s 1 (pos 0)
 -- lo below lo, hi above hi, x itself otherwise: a NaN is kept
 abbrev pub clamp : Float → Float → Float → Float
 clamp x lo hi = cond (lt x lo) lo (cond (lt hi x) hi x)
+
+-- above 0, and finite
+unfoldable pub finitePositive : Float → Bool
+finitePositive x = lt 𝟎 x && finite x

@@ -3,7 +3,7 @@
 ghost use mathlib.Core.Path.{_≡_};
 ghost use lib.Ieee.{binary64, isNan, ofBits, toBits};
 ghost use lib.Ieee.Scale.{finite};
-ghost use Rattle.float.specs.Methods.{abs, maxNum, minNum, signum, clamp};
+ghost use Rattle.float.specs.Methods.{abs, maxNum, minNum, signum, clamp, finitePositive};
 ghost use Rattle.float.specs.Counter.{saturatingIncrement};
 
 // 2^-52, the distance from 1 to the next double, and its square root, 2^-26.
@@ -25,6 +25,13 @@ pub fn is_finite(x: f64) -> bool
     ensures { λ r. ⌜ r ≡ finite x ⌝ }
 {
     x - x >= 0.0
+}
+
+// Whether x is above 0 and finite.
+pub fn is_finite_positive(x: f64) -> bool
+    ensures { λ r. ⌜ r ≡ finitePositive x ⌝ }
+{
+    x - x < x
 }
 
 // 0 - x is exact, and +0 where x is a zero of either sign.

@@ -1,60 +1,60 @@
 -- The tests of the first step, one after the other, and what is known of the lengths where they are passed. Assumes nothing.
-use Prim.Native.Nat.{ℕ, _≤_}
+use Prim.Native.Nat.{ℕ}
 use native.Mathlib.Omega.{arith}
-use mathlib.Core.Path.{_≡_, sym, ap, _∙_}
+use mathlib.Core.Path.{_≡_, refl, sym, ap, _∙_}
 use mathlib.Core.Bool.{Bool, true, false, not, cond}
 use mathlib.Core.List.{List, [], _∷_}
-use lib.Dec.{eqb, ltb}
 use lib.ListN.{length}
 use lib.Ieee.{Float, lt, eq, ne}
 use lib.Ieee.Scale.{finite}
-use borrow.Author.Tests.{eqb-true, ltb-false, not-false}
 use Rattle.float.specs.Operators.{_⊗_, 𝟎, 𝟏}
 use Rattle.float.specs.Constants.{ten⁻⁵}
 use Rattle.float.specs.Methods.{minNum}
-use Rattle.float.proofs.Cases.{or-left, or-right}
+use Rattle.float.proofs.Cases.{told-not}
 use Rattle.vector.specs.Lists.{allFinite}
 use Rattle.stepping.specs.Refusals.{dimension, nonFinite, direction, timeResolution, firstStep, _when_, firstOf}
+use Rattle.stepping.specs.Dimension.{sameDimension}
+use Rattle.stepping.proofs.Dimension.{Sizes, sizes}
 use Rattle.stepping.proofs.Refusals.{here, later, none, passed, is-refused, is-answered, stopped-here, went-later}
 use Rattle.initial_step.specs.declared.FirstStep.{FirstStep}
 use Rattle.initial_step.specs.declared.FirstStep.the-variants.{Step, Refused}
 use Rattle.initial_step.specs.Norm.{rms}
-use Rattle.initial_step.specs.First.{misshapen, undirected, inputTests, slight, unbounded, guess, normTests, proposed}
+use Rattle.initial_step.specs.First.{undirected, inputTests, slight, unbounded, guess, normTests, proposed}
 
 -- what a call's answer says of the test that it stands for
 pub told-abs : {a b : Float} {x : Bool} → a ≡ b → ne a 𝟏 ≡ x → ne b 𝟏 ≡ x
 told-abs e h = ap (λ (y : Float). ne y 𝟏) (sym e) ∙ h
 
 -- ---- what is handed over
-module _ (y f s : List Float) (direct maximum : Float) {m : Bool} (e : m ≡ misshapen (length y) (length f) (length s)) where
+module _ (y f s : List Float) (direct maximum : Float) {m : Bool} (e : m ≡ sameDimension (length y) (length f) (length s)) where
   abbrev Number : ℕ
   Number = firstOf (inputTests y f s direct maximum)
 
-  pub wrong-shape : m ≡ true → dimension ≡ Number
+  pub wrong-shape : not m ≡ true → dimension ≡ Number
   unfolding inputTests
-  wrong-shape h = sym (here 1 _ (sym e ∙ h))
+  wrong-shape h = sym (here 1 _ (told-not e h))
 
-  module _ (q : m ≡ false) {n₁ : ℕ} (e₁ : n₁ ≡ cond (allFinite y) 0 nonFinite) where
+  module _ (q : not m ≡ false) {n₁ : ℕ} (e₁ : n₁ ≡ cond (allFinite y) 0 nonFinite) where
     pub state-stops : (n₁ ≡ 0 → ⊥) → n₁ ≡ Number
     unfolding inputTests
-    state-stops h = sym (later 1 _ (sym e ∙ q) (stopped-here 1 (allFinite y) e₁ _ h))
+    state-stops h = sym (later 1 _ (told-not e q) (stopped-here 1 (allFinite y) e₁ _ h))
 
     module _ (q₁ : n₁ ≡ 0) {n₂ : ℕ} (e₂ : n₂ ≡ cond (allFinite f) 0 nonFinite) where
       pub derivative-stops : (n₂ ≡ 0 → ⊥) → n₂ ≡ Number
       unfolding inputTests
-      derivative-stops h = sym (later 1 _ (sym e ∙ q) (went-later 1 (allFinite y) e₁ _ q₁ (stopped-here 1 (allFinite f) e₂ _ h)))
+      derivative-stops h = sym (later 1 _ (told-not e q) (went-later 1 (allFinite y) e₁ _ q₁ (stopped-here 1 (allFinite f) e₂ _ h)))
 
       module _ (q₂ : n₂ ≡ 0) {n₃ : ℕ} (e₃ : n₃ ≡ cond (allFinite s) 0 nonFinite) where
         pub scales-stop : (n₃ ≡ 0 → ⊥) → n₃ ≡ Number
         unfolding inputTests
         scales-stop h =
-            sym (later 1 _ (sym e ∙ q) (went-later 1 (allFinite y) e₁ _ q₁ (went-later 1 (allFinite f) e₂ _ q₂ (stopped-here 1 (allFinite s) e₃ _ h))))
+            sym (later 1 _ (told-not e q) (went-later 1 (allFinite y) e₁ _ q₁ (went-later 1 (allFinite f) e₂ _ q₂ (stopped-here 1 (allFinite s) e₃ _ h))))
 
         module _ (q₃ : n₃ ≡ 0) {n₄ : ℕ} (e₄ : n₄ ≡ cond (allFinite (direct ∷ maximum ∷ [])) 0 nonFinite) where
           -- the first three passed
           third : {j : ℕ} → firstOf ((nonFinite when not (allFinite (direct ∷ maximum ∷ []))) ∷ (direction when undirected s direct maximum) ∷ []) ≡ j → Number ≡ j
           unfolding inputTests
-          third h = later 1 _ (sym e ∙ q) (went-later 1 (allFinite y) e₁ _ q₁ (went-later 1 (allFinite f) e₂ _ q₂ (went-later 1 (allFinite s) e₃ _ q₃ h)))
+          third h = later 1 _ (told-not e q) (went-later 1 (allFinite y) e₁ _ q₁ (went-later 1 (allFinite f) e₂ _ q₂ (went-later 1 (allFinite s) e₃ _ q₃ h)))
 
           pub ends-stop : (n₄ ≡ 0 → ⊥) → n₄ ≡ Number
           ends-stop h = sym (third (stopped-here 1 (allFinite (direct ∷ maximum ∷ [])) e₄ _ h))
@@ -67,25 +67,9 @@ module _ (y f s : List Float) (direct maximum : Float) {m : Bool} (e : m ≡ mis
             none-stops h = sym (third (went-later 1 (allFinite (direct ∷ maximum ∷ [])) e₄ _ q₄ (later 4 [] (sym e₅ ∙ h) none)))
 
 -- ---- the lengths
-pub record Shape (n f s : ℕ) : Type 0 where
-  pub few : n ≤ 32
-  pub derivatives : n ≡ f
-  pub scales : n ≡ s
-
-pub shape : (n f s : ℕ) → misshapen n f s ≡ false → Shape n f s
-unfolding misshapen
-shape n f s h =
-    let a = or-right (eqb n 0) _ h in
-    let b = or-right (ltb 32 n) _ a in
-    record {
-      few = ltb-false 32 n (or-left (ltb 32 n) _ a);
-      derivatives = eqb-true n f (not-false (eqb n f) (or-left (not (eqb n f)) _ b));
-      scales = eqb-true n s (not-false (eqb n s) (or-right (not (eqb n f)) _ b));
-    }
-
-pub shape-passed : (y f s : List Float) (direct maximum : Float) → firstOf (inputTests y f s direct maximum) ≡ 0 → Shape (length y) (length f) (length s)
+pub shape-passed : (y f s : List Float) (direct maximum : Float) → firstOf (inputTests y f s direct maximum) ≡ 0 → Sizes (length y) (length f) (length s)
 unfolding inputTests
-shape-passed y f s direct maximum h = shape (length y) (length f) (length s) (passed 0 (misshapen (length y) (length f) (length s)) _ h .0)
+shape-passed y f s direct maximum h = sizes (length y) (length f) (length s) refl (passed 0 (not (sameDimension (length y) (length f) (length s))) _ h .0)
 
 -- ---- the step from the two norms
 module _ (d₀ d₁ direct maximum : Float) {u : Bool} (e : u ≡ unbounded d₀ d₁) where

@@ -26,12 +26,13 @@ use Rattle.float.proofs.Order.{not-lt-le}
 use Rattle.vector.specs.Lists.{every, allFinite}
 use Rattle.vector.proofs.Lists.{finite-at}
 use Rattle.square_root.specs.Root.{squareRoot}
+use Rattle.stepping.specs.Dimension.{sameDimension}
 use Rattle.stepping.specs.Refusals.{firstStep, firstOf, unlessRefused}
 use Rattle.stepping.proofs.Refusals.{here, later, none, passed, is-refused, is-answered}
 use Rattle.initial_step.specs.declared.FirstStep.{FirstStep}
 use Rattle.initial_step.specs.declared.FirstStep.the-variants.{Step, Refused}
 use Rattle.initial_step.specs.Norm.{scaledSum, mean, ratios, rms}
-use Rattle.initial_step.specs.First.{misshapen, allAbove, undirected, inputTests, slight, unbounded, guess, normTests, proposed, initialStep, plainStep}
+use Rattle.initial_step.specs.First.{allAbove, undirected, inputTests, slight, unbounded, guess, normTests, proposed, initialStep, plainStep}
 
 -- ---- numbers above 0
 above-finite : (x : Float) → finite x ≡ true → T (above x) → T (positive x)
@@ -211,7 +212,7 @@ module _ (y f s : List Float) (direct maximum : Float) where
   maximum-positive : firstOf (inputTests y f s direct maximum) ≡ 0 → T (positive maximum)
   unfolding inputTests undirected
   maximum-positive h =
-      let p = passed 0 (misshapen (length y) (length f) (length s)) _ h .1 in
+      let p = passed 0 (not (sameDimension (length y) (length f) (length s))) _ h .1 in
       let p₂ = passed 1 (not (allFinite s)) _ (passed 1 (not (allFinite f)) _ (passed 1 (not (allFinite y)) _ p .1) .1) .1 in
       let q = passed 1 (not (allFinite (direct ∷ maximum ∷ []))) _ p₂ in
       let u = passed 3 (not (allAbove s) || (ne (abs direct) 𝟏 || le maximum 𝟎)) [] (q .1) .0 in

@@ -1,25 +1,21 @@
 -- The starting step size (Hairer, Nørsett and Wanner, Solving Ordinary Differential Equations I, II.4, the first guess): with the norms d₀ of the state
 -- and d₁ of its derivative, a hundredth of d₀ / d₁, or 1e-6 where a norm is below 1e-5; at most the maximum, in the direction. Definitions only.
-use Prim.Native.Nat.{ℕ}
 use mathlib.Core.Bool.{Bool, not, _&&_, _||_, cond}
 use mathlib.Core.List.{List, [], _∷_}
 use lib.ListN.{length}
-use lib.Dec.{eqb, ltb}
 use lib.Ieee.{Float, lt, le, eq, ne}
 use lib.Ieee.Scale.{finite}
 use Rattle.float.specs.Operators.{_⊗_, _⊘_, 𝟎, 𝟏}
 use Rattle.float.specs.Constants.{ten⁻⁵, ten⁻⁶, hundredth}
 use Rattle.float.specs.Methods.{abs, minNum}
 use Rattle.vector.specs.Lists.{el, every, allFinite}
+use Rattle.stepping.specs.Dimension.{sameDimension}
 use Rattle.stepping.specs.Refusals.{dimension, nonFinite, direction, timeResolution, firstStep, Test, _when_, firstOf, unlessRefused}
 use Rattle.initial_step.specs.declared.FirstStep.{FirstStep}
 use Rattle.initial_step.specs.declared.FirstStep.the-variants.{Step, Refused}
 use Rattle.initial_step.specs.Norm.{rms}
 
 -- ---- what is handed over: n components, 1 to 32, with as many derivatives and scales; the scales and the maximum above 0, the direction 1 or -1
-
-unfoldable pub misshapen : ℕ → ℕ → ℕ → Bool
-misshapen n f s = eqb n 0 || (ltb 32 n || (not (eqb n f) || not (eqb n s)))
 
 unfoldable pub allAbove : List Float → Bool
 unfolding every
@@ -30,7 +26,7 @@ undirected s direct maximum = not (allAbove s) || (ne (abs direct) 𝟏 || le ma
 
 unfoldable pub inputTests : List Float → List Float → List Float → Float → Float → List Test
 inputTests y f s direct maximum =
-    (dimension when misshapen (length y) (length f) (length s))
+    (dimension when not (sameDimension (length y) (length f) (length s)))
     ∷ (nonFinite when not (allFinite y))
     ∷ (nonFinite when not (allFinite f))
     ∷ (nonFinite when not (allFinite s))

@@ -4,7 +4,7 @@ ghost use Prim.Native.Nat.{_≤_};
 ghost use lib.ListN.{length};
 ghost use Rattle.stepping.specs.Refusals.{firstOf};
 ghost use Rattle.initial_step.specs.Norm.{ratio, square, raised, summed, added, mean, rms};
-ghost use Rattle.initial_step.specs.First.{misshapen, allAbove, undirected, inputTests, slight, unbounded, guess, proposed, initialStep};
+ghost use Rattle.initial_step.specs.First.{allAbove, undirected, inputTests, slight, unbounded, guess, proposed, initialStep};
 
 // The first step, or the number of a refusal.
 pub enum FirstStep {
@@ -16,22 +16,6 @@ pub enum FirstStep {
 pub struct ScaledSum {
     pub largest: f64,
     pub sum: f64,
-}
-
-// Whether the lengths differ or no stepper has that many components.
-fn misshapen(state: usize, derivative: usize, scales: usize) -> bool
-    ensures { λ r. ⌜ r ≡ misshapen state derivative scales ⌝ }
-{
-    if state == 0 {
-        return true;
-    }
-    if state > 32 {
-        return true;
-    }
-    if state != derivative {
-        return true;
-    }
-    state != scales
 }
 
 fn all_above(scales: &[f64]) -> bool
@@ -63,7 +47,7 @@ fn undirected(scales: &[f64], direction: f64, maximum: f64) -> bool
 fn refusal(state: &[f64], derivative: &[f64], scales: &[f64], direction: f64, maximum: f64) -> u32
     ensures { λ r. ⌜ r ≡ firstOf (inputTests (now (state .entry)) (now (derivative .entry)) (now (scales .entry)) direction maximum) ⌝ }
 {
-    if misshapen(state.len(), derivative.len(), scales.len()) {
+    if !stepping::same_dimension(state.len(), derivative.len(), scales.len()) {
         return stepping::DIMENSION;
     }
     let number = stepping::finite(state);

@@ -1,61 +1,42 @@
 -- The answers of scaled_error_norm, from what its calls answered. Assumes nothing.
-use mathlib.Core.Path.{_≡_, sym, ap, _∙_}
-use Prim.Native.Nat.{ℕ, _≤_}
+use mathlib.Core.Path.{_≡_, ap, _∙_}
+use Prim.Native.Nat.{ℕ}
 use native.Mathlib.Omega.{arith}
 use mathlib.Core.Bool.{Bool, true, false, not, _&&_}
 use mathlib.Core.List.{List}
-use lib.Dec.{T, eqb, leb}
+use lib.Dec.{T}
 use lib.IntN.{pos}
 use lib.ListN.{length}
 use lib.Ieee.{Float, binary64, fits, ofInt}
-use borrow.Author.Tests.{leb-true, eqb-true}
+use Rattle.float.specs.Methods.{finitePositive}
 use Rattle.float.specs.Operators.{_⊘_}
-use Rattle.float.proofs.Cases.{told-yes, and-left, and-right}
+use Rattle.float.proofs.Cases.{told-yes, told-not, and-left, and-right}
 use Rattle.vector.specs.Lists.{el, allFinite}
 use Rattle.square_root.specs.Root.{squareRoot}
 use Rattle.stepping.specs.Refusals.{dimension, nonFinite, tolerance}
+use Rattle.stepping.specs.Dimension.{sameDimension}
+use Rattle.stepping.proofs.Dimension.{sizes}
 use Rattle.stepping.proofs.Refusals.{here, later, none, is-refused, is-answered}
 use Rattle.norm.specs.declared.Norm.the-variants.{Value, Refused}
 use Rattle.norm.specs.ErrorNorm.{sumOfSquares, rootMeanSquare, errorNorm}
 use Rattle.norm.specs.Steps.{numberRatio}
-use Rattle.norm.specs.ScaledErrorNorm.{sameDimension, finitePositive, scaledErrorNorm}
+use Rattle.norm.specs.ScaledErrorNorm.{scaledErrorNorm}
 use Rattle.norm.proofs.Finite.{same-sum}
-
--- what the first test tells
-pub record Sizes (n m k : ℕ) : Type 0 where
-  pub most : n ≤ 32
-  pub second : m ≡ n
-  pub third : k ≡ n
-
-pub sizes : (n m k : ℕ) {d : Bool} → d ≡ sameDimension n m k → not d ≡ false → Sizes n m k
-unfolding sameDimension
-sizes n m k e h =
-    let h₂ = and-right (leb 1 n) _ (told-yes e h) in
-    let h₃ = and-right (leb n 32) _ h₂ in
-    record {
-      most = leb-true n 32 (and-left (leb n 32) _ h₂);
-      second = eqb-true m n (and-left (eqb m n) _ h₃);
-      third = eqb-true k n (and-right (eqb m n) _ h₃);
-    }
-
--- a test of what a call answered
-of : {r b x : Bool} → r ≡ b → not r ≡ x → not b ≡ x
-of e h = ap not (sym e) ∙ h
 
 module _ (a r : Float) (y z e : List Float) {d : Bool} (sized : d ≡ sameDimension (length y) (length z) (length e)) where
   pub wrong-dimension : not d ≡ true → Refused dimension ≡ scaledErrorNorm a r y z e
   unfolding scaledErrorNorm
-  wrong-dimension h = is-refused Refused _ (here dimension _ (of sized h)) (λ z. omega arith)
+  wrong-dimension h = is-refused Refused _ (here dimension _ (told-not sized h)) (λ z. omega arith)
 
   module _ (p : not d ≡ false) {f : Bool} (allFine : f ≡ (allFinite y && (allFinite z && allFinite e))) where
     pub not-finite : not f ≡ true → Refused nonFinite ≡ scaledErrorNorm a r y z e
     unfolding scaledErrorNorm
-    not-finite h = is-refused Refused _ (later dimension _ (of sized p) (here nonFinite _ (of allFine h))) (λ z. omega arith)
+    not-finite h = is-refused Refused _ (later dimension _ (told-not sized p) (here nonFinite _ (told-not allFine h))) (λ z. omega arith)
 
     module _ (q : not f ≡ false) {t : Bool} (tolerable : t ≡ (finitePositive a && finitePositive r)) where
       pub not-tolerable : not t ≡ true → Refused tolerance ≡ scaledErrorNorm a r y z e
       unfolding scaledErrorNorm
-      not-tolerable h = is-refused Refused _ (later dimension _ (of sized p) (later nonFinite _ (of allFine q) (here tolerance _ (of tolerable h)))) (λ z. omega arith)
+      not-tolerable h = is-refused Refused _ (later dimension _ (told-not sized p) (later nonFinite _ (told-not allFine q) (here tolerance _ (told-not tolerable h)))) (λ z. omega arith)
 
       pub answered : {s v : Float} → ((i : ℕ) → T (fits binary64 (el y i))) → ((i : ℕ) → T (fits binary64 (el z i))) → not t ≡ false
           → s ≡ sumOfSquares (numberRatio a r y z e) (length y) → v ≡ squareRoot (s ⊘ ofInt binary64 (pos (length y))) → Value v ≡ scaledErrorNorm a r y z e
@@ -65,5 +46,5 @@ module _ (a r : Float) (y z e : List Float) {d : Bool} (sized : d ≡ sameDimens
           let l = sizes n (length z) (length e) sized p in
           let k = told-yes allFine q in
           let same = same-sum a r y z e f g n (omega arith) (omega arith) (and-left (allFinite y) _ k) (and-left (allFinite z) _ (and-right (allFinite y) _ k)) in
-          is-answered Refused (later dimension _ (of sized p) (later nonFinite _ (of allFine q) (later tolerance _ (of tolerable h) none)))
+          is-answered Refused (later dimension _ (told-not sized p) (later nonFinite _ (told-not allFine q) (later tolerance _ (told-not tolerable h) none)))
           (ap Value (w ∙ ap (λ (s : Float). squareRoot (s ⊘ ofInt binary64 (pos n))) (u ∙ same)))

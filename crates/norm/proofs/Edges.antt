@@ -6,13 +6,14 @@ use mathlib.Core.List.{[], _∷_}
 use lib.IntN.{pos, negsuc}
 use lib.ListN.{replicate}
 use lib.Ieee.{Float, nan, fin, isNan, lt, add, mul, div, ofBits, ofInt, round, size, odd}
-use Rattle.float.specs.Methods.{abs}
+use Rattle.float.specs.Methods.{abs, finitePositive}
 use Rattle.vector.specs.Lists.{every, allFinite}
 use Rattle.square_root.specs.Root.{wholeRoot, halfExponent, significand, rootOfUnits, squareRoot}
 use Rattle.stepping.specs.Refusals.{firstOf, unlessRefused}
+use Rattle.stepping.specs.Dimension.{sameDimension}
 use Rattle.norm.specs.declared.Norm.the-variants.{Value, Refused}
 use Rattle.norm.specs.ErrorNorm.{scale, ratio, sumOfSquares, rootMeanSquare, errorNorm}
-use Rattle.norm.specs.ScaledErrorNorm.{sameDimension, finitePositive, scaledErrorNorm}
+use Rattle.norm.specs.ScaledErrorNorm.{scaledErrorNorm}
 
 -- whatever the tolerances, and whatever the numbers
 pub no-components : (a r : Float) → scaledErrorNorm a r [] [] [] ≡ Refused 1

@@ -17,7 +17,7 @@ use Rattle.vector.proofs.Lists.{every-of, finite-at}
 use Rattle.norm.specs.ErrorNorm.{scale, ratio, sumOfSquares}
 use Rattle.norm.specs.Steps.{numberScale, numberRatio, sumOfValues}
 use Rattle.norm.proofs.Magnitude.{larger-magnitude}
-use Rattle.norm.proofs.General.{finite-sum, finite-product, finite-quotient}
+use Rattle.float.proofs.Finite.{finite-sum, finite-product, finite-quotient}
 
 -- the last term, or one before it
 step : {P : ℕ → Type 0} (k : ℕ) → P k → ((i : ℕ) → i < k → P i) → (i : ℕ) → i < suc k → P i

@@ -1,5 +1,4 @@
 -- Laws that dependents may cite, and the edges.
-pub mod General
 pub mod Magnitude
 mod Finite
 mod Answers

@@ -1,24 +1,15 @@
 -- What scaled_error_norm refuses, as the scope paper has it, and its answer. Definitions only.
-use Prim.Native.Nat.{ℕ}
-use mathlib.Core.Bool.{Bool, not, _&&_}
+use mathlib.Core.Bool.{not, _&&_}
 use mathlib.Core.List.{List, [], _∷_}
-use lib.Dec.{eqb, leb}
 use lib.ListN.{length}
-use lib.Ieee.{Float, lt}
-use lib.Ieee.Scale.{finite}
-use Rattle.float.specs.Operators.{𝟎}
+use lib.Ieee.{Float}
+use Rattle.float.specs.Methods.{finitePositive}
 use Rattle.vector.specs.Lists.{allFinite}
+use Rattle.stepping.specs.Dimension.{sameDimension}
 use Rattle.stepping.specs.Refusals.{dimension, nonFinite, tolerance, Test, _when_, firstOf, unlessRefused}
 use Rattle.norm.specs.declared.Norm.{Norm}
 use Rattle.norm.specs.declared.Norm.the-variants.{Value, Refused}
 use Rattle.norm.specs.ErrorNorm.{errorNorm}
-
--- one length, from 1 to 32
-unfoldable pub sameDimension : ℕ → ℕ → ℕ → Bool
-sameDimension n m k = leb 1 n && (leb n 32 && (eqb m n && eqb k n))
-
-unfoldable pub finitePositive : Float → Bool
-finitePositive t = finite t && lt 𝟎 t
 
 -- 1 for the lengths; 2 for a number that is not finite; 8 for a tolerance that is not finite and positive
 abbrev pub tests : Float → Float → List Float → List Float → List Float → List Test

@@ -6,7 +6,8 @@ ghost use lib.Ieee.Scale.{finite};
 ghost use Rattle.vector.specs.Lists.{allFinite};
 ghost use Rattle.norm.specs.ErrorNorm.{sumOfSquares};
 ghost use Rattle.norm.specs.Steps.{larger, smaller, largerMagnitude, numberScale, numberRatio, sumOfValues};
-ghost use Rattle.norm.specs.ScaledErrorNorm.{sameDimension, finitePositive, scaledErrorNorm};
+ghost use Rattle.float.specs.Methods.{finitePositive};
+ghost use Rattle.norm.specs.ScaledErrorNorm.{scaledErrorNorm};
 
 // The norm, or the number of a refusal.
 pub enum Norm {
@@ -91,37 +92,12 @@ fn all_finite<'a>(state: &'a [f64], candidate: &'a [f64], error: &'a [f64], sum:
     vector::all_finite(error)
 }
 
-// Whether the three have one length, from 1 to 32.
-fn same_dimension(n: usize, m: usize, k: usize) -> bool
-    ensures { λ r. ⌜ r ≡ sameDimension n m k ⌝ }
-{
-    if n < 1 {
-        return false;
-    }
-    if n > 32 {
-        return false;
-    }
-    if m != n {
-        return false;
-    }
-    k == n
-}
-
-// Whether a tolerance can be used.
-fn finite_positive(tolerance: f64) -> bool
-    ensures { λ r. ⌜ r ≡ finitePositive tolerance ⌝ }
-{
-    if float::is_finite(tolerance) {
-        return tolerance > 0.0;
-    }
-    false
-}
-
+// Whether the tolerances can be used.
 fn both_finite_positive(absolute: f64, relative: f64) -> bool
     ensures { λ r. ⌜ r ≡ (finitePositive absolute && finitePositive relative) ⌝ }
 {
-    if finite_positive(absolute) {
-        return finite_positive(relative);
+    if float::is_finite_positive(absolute) {
+        return float::is_finite_positive(relative);
     }
     false
 }
@@ -136,7 +112,7 @@ pub fn scaled_error_norm<'a>(
 ) -> Norm
     ensures { λ r. ⌜ r ≡ scaledErrorNorm absolute relative (now (state .entry)) (now (candidate .entry)) (now (error .entry)) ⌝ }
 {
-    if !same_dimension(state.len(), candidate.len(), error.len()) {
+    if !stepping::same_dimension(state.len(), candidate.len(), error.len()) {
         return Norm::Refused(stepping::DIMENSION);
     }
     let sums = summed(state, candidate, error, absolute, relative);

@@ -6,11 +6,12 @@ use mathlib.Core.List.{List, [], _∷_}
 use lib.IntN.{pos}
 use lib.Dec.{eqb}
 use lib.Ieee.{Float, binary64, ofInt, ofBits, div, round, lt, le, eq}
+use Rattle.float.specs.Methods.{finitePositive}
 use Rattle.float.specs.Operators.{_⊘_, 𝟎, 𝟏}
 use Rattle.stepping.specs.Refusals.{configuration, _when_, firstOf}
 use Rattle.settings.specs.declared.ControllerConfig.{ControllerConfig}
 use Rattle.settings.specs.declared.Settings.{Settings}
-use Rattle.settings.specs.Valid.{finitePositive, fraction, validExponents, validFactors, validSteps, validErrors, validHistory, validLimits, validSettings}
+use Rattle.settings.specs.Valid.{fraction, validExponents, validFactors, validSteps, validErrors, validHistory, validLimits, validSettings}
 use Rattle.settings.specs.Presets.{pid, pi, proportional}
 
 pub handed-out : (order : ℕ) {j : ℕ} {c : ControllerConfig} {w : Float} → w ≡ ofInt binary64 (pos order) → c ≡ pi (𝟏 ⊘ w) 𝟎

@@ -3,11 +3,12 @@ use mathlib.Core.Path.{_≡_}
 use mathlib.Core.Bool.{Bool, true, false, not, _&&_, _||_, false≢true}
 use lib.Ieee.{Float, lt, le, eq}
 use lib.Ieee.Scale.{finite}
+use Rattle.float.specs.Methods.{finitePositive}
 use Rattle.float.specs.Operators.{𝟎, 𝟏}
 use Rattle.float.proofs.Cases.{and-left, and-right, or-right}
 use Rattle.float.proofs.Order.{lt-not-le}
 use Rattle.settings.specs.declared.ControllerConfig.{ControllerConfig}
-use Rattle.settings.specs.Valid.{finitePositive, fraction, validExponents, validFactors, validSteps, validErrors, validHistory, validLimits, validSettings}
+use Rattle.settings.specs.Valid.{fraction, validExponents, validFactors, validSteps, validErrors, validHistory, validLimits, validSettings}
 
 -- a number above 0 is no zero
 pub above-no-zero : (x : Float) → lt 𝟎 x ≡ true → eq x 𝟎 ≡ false

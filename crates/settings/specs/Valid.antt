@@ -6,12 +6,9 @@ use mathlib.Core.List.{List}
 use lib.Ieee.{Float, lt, le}
 use lib.Ieee.Scale.{finite}
 use Rattle.float.specs.Operators.{𝟎, 𝟏}
+use Rattle.float.specs.Methods.{finitePositive}
 use Rattle.vector.specs.Lists.{el}
 use Rattle.settings.specs.declared.ControllerConfig.{ControllerConfig}
-
--- above 0, and finite
-unfoldable pub finitePositive : Float → Bool
-finitePositive x = lt 𝟎 x && finite x
 
 -- above 0, and at most 1
 unfoldable pub fraction : Float → Bool

@@ -4,7 +4,7 @@ ghost use mathlib.Core.Path.{_≡_};
 ghost use mathlib.Core.Bool.{_&&_, _||_};
 ghost use lib.IntN.{pos};
 ghost use lib.Ieee.{binary64, ofInt};
-ghost use Rattle.settings.specs.Valid.{finitePositive, fraction, validExponents, validFactors, validSteps, validHistory, validLimits, validSettings, validErrors};
+ghost use Rattle.settings.specs.Valid.{fraction, validExponents, validFactors, validSteps, validHistory, validLimits, validSettings, validErrors};
 ghost use Rattle.settings.specs.Presets.{pid, pi, proportional};
 
 // Where a `has_` is false, the number after it is not read.
@@ -61,13 +61,6 @@ pub fn either(a: bool, b: bool) -> bool
         return true;
     }
     b
-}
-
-// x - x is 0 for a finite number, and a NaN for any other.
-fn positive(x: f64) -> bool
-    ensures { λ r. ⌜ r ≡ finitePositive x ⌝ }
-{
-    x - x < x
 }
 
 fn fraction(x: f64) -> bool
@@ -134,12 +127,12 @@ impl ControllerConfig {
         ensures { λ r. ⌜ r ≡ validExponents self ⌝ }
     {
         let beta = self.beta;
-        let first = positive(beta[0]);
+        let first = float::is_finite_positive(beta[0]);
         let second = float::is_finite(beta[1]);
         let third = float::is_finite(beta[2]);
         let rejection = either(
             !self.has_rejection_exponent,
-            positive(self.rejection_exponent),
+            float::is_finite_positive(self.rejection_exponent),
         );
         both(first, both(second, both(third, rejection)))
     }
@@ -147,14 +140,14 @@ impl ControllerConfig {
     fn factors_valid(self) -> bool
         ensures { λ r. ⌜ r ≡ validFactors self ⌝ }
     {
-        let safety = positive(self.safety);
+        let safety = float::is_finite_positive(self.safety);
         let least = fraction(self.minimum_factor);
         let most = both(
             self.minimum_factor <= self.maximum_factor,
             float::is_finite(self.maximum_factor),
         );
         let rejection = fraction(self.rejection_maximum);
-        let acceptance = positive(self.rejected_acceptance_maximum);
+        let acceptance = float::is_finite_positive(self.rejected_acceptance_maximum);
         let repeated = either(
             !self.has_repeated_rejection_maximum,
             fraction(self.repeated_rejection_maximum),
@@ -175,16 +168,19 @@ impl ControllerConfig {
             0.0 <= self.minimum_step,
             self.minimum_step <= self.maximum_step,
         );
-        both(minimum, positive(self.maximum_step))
+        both(minimum, float::is_finite_positive(self.maximum_step))
     }
 
     fn history_valid(self) -> bool
         ensures { λ r. ⌜ r ≡ validHistory self ⌝ }
     {
         let errors = self.initial_error_history;
-        let recent = positive(errors[0]);
-        let older = positive(errors[1]);
-        both(both(recent, older), positive(self.error_history_floor))
+        let recent = float::is_finite_positive(errors[0]);
+        let older = float::is_finite_positive(errors[1]);
+        both(
+            both(recent, older),
+            float::is_finite_positive(self.error_history_floor),
+        )
     }
 
     // All but the exponents.
@@ -212,8 +208,8 @@ impl ControllerState {
         ensures { λ r. ⌜ r ≡ validErrors (self .«accepted_errors») ⌝ }
     {
         let errors = self.accepted_errors;
-        let recent = positive(errors[0]);
-        let older = positive(errors[1]);
+        let recent = float::is_finite_positive(errors[0]);
+        let older = float::is_finite_positive(errors[1]);
         both(recent, older)
     }
 }

@@ -2,6 +2,7 @@
 ghost use mathlib.Core.Path.{_≡_};
 ghost use mathlib.Core.Bool.{cond};
 ghost use Rattle.vector.specs.Lists.{allFinite};
+ghost use Rattle.stepping.specs.Dimension.{sameDimension};
 ghost use Rattle.stepping.specs.Refusals.{nonFinite};
 ghost use Rattle.stepping.specs.Time.{stuck, checkedTime, clipped, pointsAway, endpointStep};
 
@@ -135,4 +136,20 @@ pub fn endpoint_step(time: f64, endpoint: f64, proposal: f64) -> Endpoint
         Checked::At(_) => Endpoint::Step(step),
         Checked::Refused(number) => Endpoint::Refused(number),
     }
+}
+
+// Whether the three have one length, from 1 to 32.
+pub fn same_dimension(n: usize, m: usize, k: usize) -> bool
+    ensures { λ r. ⌜ r ≡ sameDimension n m k ⌝ }
+{
+    if n < 1 {
+        return false;
+    }
+    if n > 32 {
+        return false;
+    }
+    if m != n {
+        return false;
+    }
+    k == n
 }

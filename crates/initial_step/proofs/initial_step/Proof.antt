@@ -16,7 +16,7 @@ unfolding initialStep
 returns c = is-refused Refused _ (sym (c .before .refusal .ensures)) (c .if1 .taken)
 
 rms-requires : tie.Need-rms-requires
-rms-requires c κs = let g = shape-passed _ _ _ _ _ (sym (c .before .refusal .ensures) ∙ c .if1 .left) in (g .scales, g .few)
+rms-requires c κs = let g = shape-passed _ _ _ _ _ (sym (c .before .refusal .ensures) ∙ c .if1 .left) in (sym (g .third), g .most)
 
 proposed-requires : tie.Need-proposed-requires
 proposed-requires c κs = tt
@@ -27,7 +27,7 @@ returns-2 c = is-answered Refused (sym (c .before .before .before .before .refus
 
 rms-requires-2 : tie.Need-rms-requires-2
 rms-requires-2 c κs = let g = shape-passed _ _ _ _ _ (sym (c .before .before .before .refusal .ensures) ∙ c .before .before .if1 .left) in
-    (sym (g .derivatives) ∙ g .scales, omega (arith, g .few, g .derivatives))
+    (g .second ∙ sym (g .third), omega (arith, g .most, g .second))
 
 proposed-requires-2 : tie.Need-proposed-requires-2
 proposed-requires-2 c κs = tt

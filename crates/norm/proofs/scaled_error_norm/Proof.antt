@@ -7,7 +7,8 @@ use lib.Ieee.{inFloat}
 use lib.ListN.{length}
 use denote.Ref.{now}
 use Rattle.norm.proofs.Finite.{finite-data}
-use Rattle.norm.proofs.Answers.{sizes, wrong-dimension, not-finite, not-tolerable, answered}
+use Rattle.stepping.proofs.Dimension.{sizes}
+use Rattle.norm.proofs.Answers.{wrong-dimension, not-finite, not-tolerable, answered}
 use Rattle.norm.proofs.scaled_error_norm.Statement.{statement}
 use Rattle.norm.proofs.scaled_error_norm.Tie as tie
 

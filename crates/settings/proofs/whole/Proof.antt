@@ -3,7 +3,7 @@ use Prim.Native.Nat.{_/_, _%_, _^_}
 use native.Mathlib.Omega.{arith}
 use lib.Dec.{le→leb}
 use lib.Ieee.{inFloat}
-use Rattle.settings.proofs.General.{halves}
+use Rattle.float.proofs.Halves.{halves}
 use Rattle.settings.proofs.whole.Statement.{statement}
 use Rattle.settings.proofs.whole.Tie as tie
 

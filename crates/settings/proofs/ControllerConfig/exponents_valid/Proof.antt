@@ -4,11 +4,11 @@ use Rattle.settings.specs.Valid.{validExponents}
 use Rattle.settings.proofs.ControllerConfig.exponents_valid.Statement.{statement}
 use Rattle.settings.proofs.ControllerConfig.exponents_valid.Tie as tie
 
-array-read-positive : tie.Need-array-read-positive
-array-read-positive c = search needs
+array-read-is-finite-positive : tie.Need-array-read-is-finite-positive
+array-read-is-finite-positive c = search needs
 
-positive-requires : tie.Need-positive-requires
-positive-requires c κs = tt
+is-finite-positive-requires : tie.Need-is-finite-positive-requires
+is-finite-positive-requires c κs = tt
 
 array-read-is-finite : tie.Need-array-read-is-finite
 array-read-is-finite c = search needs
@@ -22,8 +22,8 @@ array-read-is-finite-2 c = search needs
 is-finite-requires-2 : tie.Need-is-finite-requires-2
 is-finite-requires-2 c κs = tt
 
-positive-requires-2 : tie.Need-positive-requires-2
-positive-requires-2 c κs = tt
+is-finite-positive-requires-2 : tie.Need-is-finite-positive-requires-2
+is-finite-positive-requires-2 c κs = tt
 
 either-requires : tie.Need-either-requires
 either-requires c κs = tt
@@ -45,13 +45,13 @@ pub exponents-valid-spec : {M : Type 1} → statement M
 exponents-valid-spec =
     tie.close
     (tie.spec
-    array-read-positive
-    positive-requires
+    array-read-is-finite-positive
+    is-finite-positive-requires
     array-read-is-finite
     is-finite-requires
     array-read-is-finite-2
     is-finite-requires-2
-    positive-requires-2
+    is-finite-positive-requires-2
     either-requires
     both-requires
     both-requires-2

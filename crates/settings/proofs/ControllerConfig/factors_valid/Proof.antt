@@ -3,8 +3,8 @@ use Rattle.settings.specs.Valid.{validFactors}
 use Rattle.settings.proofs.ControllerConfig.factors_valid.Statement.{statement}
 use Rattle.settings.proofs.ControllerConfig.factors_valid.Tie as tie
 
-positive-requires : tie.Need-positive-requires
-positive-requires c κs = tt
+is-finite-positive-requires : tie.Need-is-finite-positive-requires
+is-finite-positive-requires c κs = tt
 
 fraction-requires : tie.Need-fraction-requires
 fraction-requires c κs = tt
@@ -18,8 +18,8 @@ both-requires c κs = tt
 fraction-requires-2 : tie.Need-fraction-requires-2
 fraction-requires-2 c κs = tt
 
-positive-requires-2 : tie.Need-positive-requires-2
-positive-requires-2 c κs = tt
+is-finite-positive-requires-2 : tie.Need-is-finite-positive-requires-2
+is-finite-positive-requires-2 c κs = tt
 
 fraction-requires-3 : tie.Need-fraction-requires-3
 fraction-requires-3 c κs = tt
@@ -50,12 +50,12 @@ pub factors-valid-spec : {M : Type 1} → statement M
 factors-valid-spec =
     tie.close
     (tie.spec
-    positive-requires
+    is-finite-positive-requires
     fraction-requires
     is-finite-requires
     both-requires
     fraction-requires-2
-    positive-requires-2
+    is-finite-positive-requires-2
     fraction-requires-3
     either-requires
     both-requires-2

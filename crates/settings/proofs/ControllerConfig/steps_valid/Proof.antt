@@ -6,8 +6,8 @@ use Rattle.settings.proofs.ControllerConfig.steps_valid.Tie as tie
 both-requires : tie.Need-both-requires
 both-requires c κs = tt
 
-positive-requires : tie.Need-positive-requires
-positive-requires c κs = tt
+is-finite-positive-requires : tie.Need-is-finite-positive-requires
+is-finite-positive-requires c κs = tt
 
 both-requires-2 : tie.Need-both-requires-2
 both-requires-2 c κs = tt
@@ -17,4 +17,4 @@ unfolding validSteps
 returns c = cc
 
 pub steps-valid-spec : {M : Type 1} → statement M
-steps-valid-spec = tie.close (tie.spec both-requires positive-requires both-requires-2 returns)
+steps-valid-spec = tie.close (tie.spec both-requires is-finite-positive-requires both-requires-2 returns)

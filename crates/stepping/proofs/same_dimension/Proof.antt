@@ -1,8 +1,8 @@
--- `norm::same_dimension` meets its contract. Assumes nothing.
+-- `stepping::same_dimension` meets its contract. Assumes nothing.
 use borrow.Author.Tests.{eq-eqb, ne-eqb, lt-leb, le-leb}
-use Rattle.norm.specs.ScaledErrorNorm.{sameDimension}
-use Rattle.norm.proofs.same_dimension.Statement.{statement}
-use Rattle.norm.proofs.same_dimension.Tie as tie
+use Rattle.stepping.specs.Dimension.{sameDimension}
+use Rattle.stepping.proofs.same_dimension.Statement.{statement}
+use Rattle.stepping.proofs.same_dimension.Tie as tie
 
 returns : tie.Need-returns
 unfolding sameDimension

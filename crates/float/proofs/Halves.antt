@@ -1,18 +1,15 @@
--- A whole number below 2 ^ 64 as a double, rounded once, from its two halves of 32 digits; a test for finite and above 0. Assumes nothing.
+-- A whole number below 2 ^ 64 as a double, rounded once, from its two halves of 32 digits. Assumes nothing.
 use mathlib.Core.Path.{_≡_, refl, sym, ap, _∙_}
-use mathlib.Core.Bool.{Bool, true, false, _&&_, true≢false}
+use mathlib.Core.Bool.{true, false, true≢false}
 use Prim.Native.Nat.{ℕ, _+_, _*_, _/_, _%_, _^_, _≤_, _<_}
 use native.Mathlib.Nat.{lt-trans, lt-of-lt-of-le, le-of-eq, zero-lt-suc, mul-one, one-mul, mul-assoc, mul-right-comm, add-mul, mul-pos, mul-lt-mul-of-pos-right, div-add-mod'}
 use native.Mathlib.Omega.{arith}
 use lib.IntN.{pos}
 use lib.Pow.{pow-add, pow-pos, pow-lt}
-use lib.Ieee.{Float, nan, inf, fin, binary64, up, down, round, ofBits, ofInt, lt, neg, add, sub, mul, sum}
+use lib.Ieee.{Float, nan, inf, fin, binary64, up, down, round, ofBits, ofInt, add, mul, sum}
 use lib.Ieee.Fits.{down-pos}
 use lib.Ieee.Exact.{HasValue, round-exact}
 use lib.Ieee.Scale.{round-same}
-use Rattle.float.specs.Operators.{_⊖_, 𝟎}
-use Rattle.float.proofs.Laws.{minus-self}
-use Rattle.settings.specs.Valid.{finitePositive}
 
 -- q * 2 ^ j for a q below 2 ^ 32 and a j up to 32 is exact
 exact : (a q j : ℕ) → q < 2 ^ 32 → j ≤ 32 → a ≡ q * 2 ^ j → HasValue (round binary64 false a 1) false a 1
@@ -72,19 +69,3 @@ halves n h =
     ap (λ (x : Float). add binary64 x (round binary64 false (n % 4294967296) 1)) (times (round binary64 false (n / 4294967296) 1) (n / 4294967296) p)
     ∙ sums (round binary64 false (n / 4294967296 * 2 ^ 32) 1) (round binary64 false (n % 4294967296) 1) (n / 4294967296 * 2 ^ 32) (n % 4294967296) q r
     ∙ ap (λ (x : ℕ). round binary64 false x 1) (div-add-mod' n 4294967296)
-
--- ---- `x - x < x`: x - x is 0 for a finite x, and a NaN for any other
-and-true : (b : Bool) → b ≡ (b && true)
-and-true true = refl
-and-true false = refl
-
-zero-is : fin false 0 (pos 0) ≡ 𝟎
-unfolding ofBits
-zero-is = refl
-
-pub less-than-self : (x : Float) → lt (x ⊖ x) x ≡ finitePositive x
-unfolding finitePositive
-less-than-self nan = unfold sub add lt ofBits in refl
-less-than-self (inf true) = unfold sub add neg lt ofBits in refl
-less-than-self (inf false) = unfold sub add neg lt ofBits in refl
-less-than-self (fin s m e) = ap (λ (z : Float). lt z (fin s m e)) (minus-self s m e ∙ zero-is) ∙ and-true (lt 𝟎 (fin s m e))
