@@ -9,3 +9,5 @@ pub mod Passed
 pub mod Lines
 mod Files
 mod Shapes
+mod Tested
+mod Nexts
