@@ -11,3 +11,4 @@ mod Files
 mod Shapes
 mod Tested
 mod Nexts
+mod Makings

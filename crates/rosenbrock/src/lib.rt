@@ -13,8 +13,8 @@ ghost use Rattle.rosenbrock.specs.Requests.{askOf, askNumber, askStage, 
 ghost use Rattle.rosenbrock.specs.Tests.{shapeFits, sizeTests, fileTests, pivotsUnfit, openTest, pendingTest, candidateTest, requestTest, lengthTest, finiteTest};
 ghost use Rattle.rosenbrock.specs.Answers.{lending};
 ghost use Rattle.rosenbrock.specs.Calls.{memoAccepted, fresh};
-ghost use Rattle.rosenbrock.specs.Stepper.{oneMore, tallied, by-value, accept, reject, fail, inject-derivative, reset, stepped};
-ghost use Rattle.rosenbrock.specs.Contracts.{lentTests, systemOf, nextOf, madeBy, makingOf};
+ghost use Rattle.rosenbrock.specs.Stepper.{oneMore, tallied, noStatistics, by-value, accept, reject, fail, inject-derivative, reset, stepped};
+ghost use Rattle.rosenbrock.specs.Contracts.{lentTests, newTests, systemOf, nextOf, madeBy, makingOf};
 use attempts::Ask;
 use attempts::Counted;
 use attempts::Ending;
@@ -410,9 +410,76 @@ fn finite_refusal(values: &[f64], time: f64) -> u32
     0
 }
 
+// A making: 12, 1, 2, 2, 3.
+fn making_refusal(file: &[u8], time: f64, state: &[f64], work: usize, pivots: usize) -> u32
+    ensures { λ r. ⌜ r ≡ firstOf (newTests (now (file .entry)) time (now (state .entry)) work pivots) ⌝ }
+{
+    if tableau::check(file) != 0 {
+        return stepping::TABLEAU_FILE;
+    }
+    let n = state.len();
+    if !shape_fits(n, tableau::stages(file), n, work, pivots) {
+        return stepping::DIMENSION;
+    }
+    let number = finite_refusal(state, time);
+    if number != 0 {
+        return number;
+    }
+    if tableau::kind(file) == 1 {
+        return stepping::UNSUPPORTED_TABLEAU;
+    }
+    0
+}
+
+fn no_statistics() -> StepStatistics
+    ensures { λ r. ⌜ r ≡ noStatistics ⌝ }
+{
+    StepStatistics {
+        attempts: 0,
+        rhs_evaluations: 0,
+        accepted_steps: 0,
+        rejected_steps: 0,
+        jacobian_evaluations: 0,
+        factorizations: 0,
+        linear_solves: 0,
+    }
+}
+
 // ---- the calls
 
 impl RosenbrockStepper {
+    // n is the length of the state, and s the file's. The needed work and the pivots are set to 0.
+    pub fn new(
+        file: &[u8],
+        policy: TimeDifferencePolicy,
+        time: f64,
+        state: &[f64],
+        work: &mut [f64],
+        pivots: &mut [usize],
+    ) -> Making
+        ensures { λ r. ⌜ madeBy r (now (state .entry)) (now (work .exit)) (now (pivots .exit))
+            ≡ makingOf (now (file .entry)) policy time (lending (now (state .entry)) (now (work .entry)) (now (pivots .entry))) ⌝ }
+    {
+        let number = making_refusal(file, time, state, work.len(), pivots.len());
+        if number != 0 {
+            return Making::Refused(number);
+        }
+        let n = state.len();
+        let s = tableau::stages(file);
+        let need = needed_work(n, s);
+        vector::fill(&mut work[..need], 0.0);
+        vector::zero(pivots);
+        let fixed = Fixed { n, s, policy };
+        let progress = fresh(time);
+        let statistics = no_statistics();
+        let stepper = RosenbrockStepper {
+            fixed,
+            progress,
+            statistics,
+        };
+        Making::Made(stepper)
+    }
+
     pub fn accept(self, state: &mut [f64], work: &[f64], pivots: &[usize]) -> Outcome
         ensures { λ r. ⌜ nextOf r (now (state .exit)) (now (work .entry)) (now (pivots .entry))
             ≡ stepped (accept by-value) (systemOf self (now (state .entry)) (now (work .entry)) (now (pivots .entry))) ⌝ }
