@@ -1,5 +1,4 @@
 -- `rosenbrock::fail_refusal` meets its contract: test by test. Assumes nothing.
-use borrow.Author.Needs.{needs}
 use mathlib.Core.Path.{ap}
 use mathlib.Core.Bool.{not}
 use Rattle.stepping.proofs.Refusals.{here, later, none}
@@ -8,7 +7,7 @@ use Rattle.rosenbrock.proofs.fail_refusal.Statement.{statement}
 use Rattle.rosenbrock.proofs.fail_refusal.Tie as tie
 
 fit-refusal-requires : tie.Need-fit-refusal-requires
-fit-refusal-requires c κs = search needs
+fit-refusal-requires c κs = tt
 
 returns : tie.Need-returns
 returns c = let a = c .before .before .args in unfit (a .fixed) (a .progress) (a .state) (a .work) (a .pivots) _ (c .before .fit-refusal .ensures) (c .if1 .taken)

@@ -1,5 +1,4 @@
 -- `rosenbrock::finite_refusal` meets its contract: test by test. Assumes nothing.
-use borrow.Author.Needs.{needs}
 use mathlib.Core.List.{[], _∷_}
 use Rattle.vector.specs.Lists.{every, allFinite}
 use Rattle.stepping.proofs.Refusals.{first-fails, second-fails, none-fails}
@@ -7,13 +6,13 @@ use Rattle.rosenbrock.proofs.finite_refusal.Statement.{statement}
 use Rattle.rosenbrock.proofs.finite_refusal.Tie as tie
 
 all-finite-requires : tie.Need-all-finite-requires
-all-finite-requires c κs = search needs
+all-finite-requires c κs = tt
 
 returns : tie.Need-returns
 returns c = let a = c .before .before .before .args in first-fails 2 2 _ (allFinite (a .time ∷ [])) (c .before .all-finite .ensures) (c .if1 .taken)
 
 is-finite-requires : tie.Need-is-finite-requires
-is-finite-requires c κs = search needs
+is-finite-requires c κs = tt
 
 returns-2 : tie.Need-returns-2
 unfolding allFinite every

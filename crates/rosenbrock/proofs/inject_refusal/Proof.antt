@@ -1,5 +1,4 @@
 -- `rosenbrock::inject_refusal` meets its contract: test by test. Assumes nothing.
-use borrow.Author.Needs.{needs}
 use mathlib.Core.Path.{ap}
 use mathlib.Core.Bool.{not}
 use borrow.Author.Tests.{eq-eqb, ne-eqb}
@@ -11,7 +10,7 @@ use Rattle.rosenbrock.proofs.inject_refusal.Statement.{statement}
 use Rattle.rosenbrock.proofs.inject_refusal.Tie as tie
 
 fit-refusal-requires : tie.Need-fit-refusal-requires
-fit-refusal-requires c κs = search needs
+fit-refusal-requires c κs = tt
 
 returns : tie.Need-returns
 returns c = let a = c .before .before .before .args in unfit (a .fixed) (a .progress) (a .state) (a .work) (a .pivots) _ (c .before .fit-refusal .ensures) (c .if1 .taken)
@@ -26,7 +25,7 @@ returns-4 : tie.Need-returns-4
 returns-4 c = let a = c .before .before .before .before .before .before .args in fit (a .fixed) (a .progress) (a .state) (a .work) (a .pivots) _ (c .before .before .before .before .fit-refusal .ensures) (c .before .before .before .if1 .left) (later 18 _ (not-open (c .before .before .if2 .left)) (later 14 _ (not-pending (c .before .if3 .left)) (here 1 _ (ap not (ne-eqb _ _ (c .if4 .taken))))))
 
 finite-requires : tie.Need-finite-requires
-finite-requires c κs = search needs
+finite-requires c κs = tt
 
 returns-5 : tie.Need-returns-5
 returns-5 c = let a = c .before .before .before .before .before .before .before .args in fit (a .fixed) (a .progress) (a .state) (a .work) (a .pivots) _ (c .before .before .before .before .before .fit-refusal .ensures) (c .before .before .before .before .if1 .left) (later 18 _ (not-open (c .before .before .before .if2 .left)) (later 14 _ (not-pending (c .before .before .if3 .left)) (later 1 _ (ap not (eq-eqb _ _ (c .before .if4 .left))) (last-test 2 (allFinite (now (a .derivative))) (c .finite .ensures)))))

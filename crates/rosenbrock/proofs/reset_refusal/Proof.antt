@@ -1,5 +1,4 @@
 -- `rosenbrock::reset_refusal` meets its contract: test by test. Assumes nothing.
-use borrow.Author.Needs.{needs}
 use mathlib.Core.Path.{sym, ap}
 use mathlib.Core.Bool.{not}
 use borrow.Author.Tests.{eq-eqb, ne-eqb}
@@ -9,7 +8,7 @@ use Rattle.rosenbrock.proofs.reset_refusal.Statement.{statement}
 use Rattle.rosenbrock.proofs.reset_refusal.Tie as tie
 
 fit-refusal-requires : tie.Need-fit-refusal-requires
-fit-refusal-requires c κs = search needs
+fit-refusal-requires c κs = tt
 
 returns : tie.Need-returns
 returns c = let a = c .before .before .before .args in unfit (a .fixed) (a .progress) (a .state) (a .work) (a .pivots) _ (c .before .fit-refusal .ensures) (c .if1 .taken)
@@ -21,7 +20,7 @@ returns-3 : tie.Need-returns-3
 returns-3 c = let a = c .before .before .before .before .before .args in fit (a .fixed) (a .progress) (a .state) (a .work) (a .pivots) _ (c .before .before .before .fit-refusal .ensures) (c .before .before .if1 .left) (later 18 _ (not-open (c .before .if2 .left)) (here 1 _ (ap not (ne-eqb _ _ (c .if3 .taken)))))
 
 finite-refusal-requires : tie.Need-finite-refusal-requires
-finite-refusal-requires c κs = search needs
+finite-refusal-requires c κs = tt
 
 returns-4 : tie.Need-returns-4
 returns-4 c = let a = c .before .before .before .before .before .before .args in fit (a .fixed) (a .progress) (a .state) (a .work) (a .pivots) _ (c .before .before .before .before .fit-refusal .ensures) (c .before .before .before .if1 .left) (later 18 _ (not-open (c .before .before .if2 .left)) (later 1 _ (ap not (eq-eqb _ _ (c .before .if3 .left))) (sym (c .finite-refusal .ensures))))

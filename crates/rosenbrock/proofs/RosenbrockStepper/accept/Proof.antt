@@ -7,13 +7,13 @@ use Rattle.rosenbrock.proofs.RosenbrockStepper.accept.Statement.{statem
 use Rattle.rosenbrock.proofs.RosenbrockStepper.accept.Tie as tie
 
 decision-refusal-requires : tie.Need-decision-refusal-requires
-decision-refusal-requires c κs = search needs
+decision-refusal-requires c κs = tt
 
 returns : tie.Need-returns
 returns c = let a = c .before .before .before .before .before .before .before .before .args in accept-refused (a .self) (now (a .state)) (now (a .work)) (now (a .pivots)) (c .before .decision-refusal .ensures) (c .if1 .taken)
 
 memo-accepted-requires : tie.Need-memo-accepted-requires
-memo-accepted-requires c κs = search needs
+memo-accepted-requires c κs = tt
 
 slice-aggregate-copy : tie.Need-slice-aggregate-copy
 slice-aggregate-copy c = let a = c .before .before .before .before .before .before .before .before .before .before .before .args in sym (candidate-long (a .self) (now (a .state)) (now (a .work)) (now (a .pivots)) (c .before .before .before .before .decision-refusal .ensures) (c .before .before .before .if1 .left))
@@ -22,7 +22,7 @@ copy-requires : tie.Need-copy-requires
 copy-requires c κs = let a = c .before .before .before .before .before .before .before .before .before .before .before .args in state-long (a .self) (now (a .state)) (now (a .work)) (now (a .pivots)) (c .before .before .before .before .decision-refusal .ensures) (c .before .before .before .if1 .left) ∙ sym (candidate-long (a .self) (now (a .state)) (now (a .work)) (now (a .pivots)) (c .before .before .before .before .decision-refusal .ensures) (c .before .before .before .if1 .left))
 
 saturating-increment-requires : tie.Need-saturating-increment-requires
-saturating-increment-requires c κs = search needs
+saturating-increment-requires c κs = tt
 
 same-length : tie.Need-same-length
 same-length c = search needs

@@ -1,5 +1,4 @@
 -- `rosenbrock::RosenbrockStepper::fail` meets its contract. Assumes nothing.
-use borrow.Author.Needs.{needs}
 use denote.Ref.{now}
 use Rattle.rosenbrock.specs.Calls.{progressAfter}
 use Rattle.rosenbrock.proofs.Nexts.{fail-refused, fail-done}
@@ -7,7 +6,7 @@ use Rattle.rosenbrock.proofs.RosenbrockStepper.fail.Statement.{statemen
 use Rattle.rosenbrock.proofs.RosenbrockStepper.fail.Tie as tie
 
 fail-refusal-requires : tie.Need-fail-refusal-requires
-fail-refusal-requires c κs = search needs
+fail-refusal-requires c κs = tt
 
 returns : tie.Need-returns
 returns c = let a = c .before .before .before .before .before .before .before .before .args in fail-refused (a .self) (now (a .state)) (now (a .work)) (now (a .pivots)) (c .before .fail-refusal .ensures) (c .if1 .taken)

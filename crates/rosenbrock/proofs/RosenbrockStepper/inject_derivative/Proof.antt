@@ -9,7 +9,7 @@ use Rattle.rosenbrock.proofs.RosenbrockStepper.inject_derivative.Statem
 use Rattle.rosenbrock.proofs.RosenbrockStepper.inject_derivative.Tie as tie
 
 inject-refusal-requires : tie.Need-inject-refusal-requires
-inject-refusal-requires c κs = search needs
+inject-refusal-requires c κs = tt
 
 returns : tie.Need-returns
 returns c = let a = c .before .before .before .before .before .before .before .before .before .before .args in inject-refused (a .self) (now (a .state)) (now (a .work)) (now (a .pivots)) (now (a .derivative)) (c .before .inject-refusal .ensures) (c .if1 .taken)

@@ -9,13 +9,13 @@ use Rattle.rosenbrock.proofs.RosenbrockStepper.new.Statement.{statement
 use Rattle.rosenbrock.proofs.RosenbrockStepper.new.Tie as tie
 
 making-refusal-requires : tie.Need-making-refusal-requires
-making-refusal-requires c κs = search needs
+making-refusal-requires c κs = tt
 
 returns : tie.Need-returns
 returns c = let a = c .before .before .before .before .before .before .args in new-refused (now (a .file)) (a .policy) (a .time) (now (a .state)) (now (a .work)) (now (a .pivots)) (c .before .making-refusal .ensures) (c .if1 .taken)
 
 stages-requires : tie.Need-stages-requires
-stages-requires c κs = search needs
+stages-requires c κs = tt
 
 needed-work-requires : tie.Need-needed-work-requires
 needed-work-requires c κs = let a = c .before .before .before .before .before .before .before .args in let f = new-shape (now (a .file)) (a .policy) (a .time) (now (a .state)) (now (a .work)) (now (a .pivots)) (c .before .before .making-refusal .ensures) (c .before .if1 .left) (c .stages .ensures .0) in (f .n-to-32, f .s-to-8)
@@ -27,16 +27,16 @@ slice-aggregate-fill : tie.Need-slice-aggregate-fill
 slice-aggregate-fill c = let a = c .before .before .before .before .before .before .before .before .before .args in sym (length-take-le _ _ (rw (c .before .needed-work .ensures) (lent-work (new-shape (now (a .file)) (a .policy) (a .time) (now (a .state)) (now (a .work)) (now (a .pivots)) (c .before .before .before .before .making-refusal .ensures) (c .before .before .before .if1 .left) (c .before .before .stages .ensures .0)))))
 
 fill-requires : tie.Need-fill-requires
-fill-requires c κs = search needs
+fill-requires c κs = tt
 
 zero-requires : tie.Need-zero-requires
-zero-requires c κs = search needs
+zero-requires c κs = tt
 
 fresh-requires : tie.Need-fresh-requires
-fresh-requires c κs = search needs
+fresh-requires c κs = tt
 
 no-statistics-requires : tie.Need-no-statistics-requires
-no-statistics-requires c κs = search needs
+no-statistics-requires c κs = tt
 
 same-length : tie.Need-same-length
 same-length c = search needs

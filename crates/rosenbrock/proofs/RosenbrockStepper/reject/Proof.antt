@@ -1,5 +1,4 @@
 -- `rosenbrock::RosenbrockStepper::reject` meets its contract. Assumes nothing.
-use borrow.Author.Needs.{needs}
 use denote.Ref.{now}
 use Rattle.rosenbrock.specs.Calls.{progressAfter}
 use Rattle.rosenbrock.proofs.Nexts.{reject-refused, reject-done}
@@ -7,13 +6,13 @@ use Rattle.rosenbrock.proofs.RosenbrockStepper.reject.Statement.{statem
 use Rattle.rosenbrock.proofs.RosenbrockStepper.reject.Tie as tie
 
 decision-refusal-requires : tie.Need-decision-refusal-requires
-decision-refusal-requires c κs = search needs
+decision-refusal-requires c κs = tt
 
 returns : tie.Need-returns
 returns c = let a = c .before .before .before .before .before .before .before .before .args in reject-refused (a .self) (now (a .state)) (now (a .work)) (now (a .pivots)) (c .before .decision-refusal .ensures) (c .if1 .taken)
 
 saturating-increment-requires : tie.Need-saturating-increment-requires
-saturating-increment-requires c κs = search needs
+saturating-increment-requires c κs = tt
 
 returns-2 : tie.Need-returns-2
 unfolding progressAfter

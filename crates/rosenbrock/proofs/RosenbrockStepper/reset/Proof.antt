@@ -9,7 +9,7 @@ use Rattle.rosenbrock.proofs.RosenbrockStepper.reset.Statement.{stateme
 use Rattle.rosenbrock.proofs.RosenbrockStepper.reset.Tie as tie
 
 reset-refusal-requires : tie.Need-reset-refusal-requires
-reset-refusal-requires c κs = search needs
+reset-refusal-requires c κs = tt
 
 returns : tie.Need-returns
 returns c = let a = c .before .before .before .before .before .before .before .before .before .args in reset-refused (a .self) (now (a .state)) (now (a .work)) (now (a .pivots)) (a .time) (now (a .values)) (c .before .reset-refusal .ensures) (c .if1 .taken)
@@ -18,7 +18,7 @@ needed-work-requires : tie.Need-needed-work-requires
 needed-work-requires c κs = let a = c .before .before .before .before .before .before .before .before .before .args in let f = reset-shape (a .self) (now (a .state)) (now (a .work)) (now (a .pivots)) (a .time) (now (a .values)) (c .before .reset-refusal .ensures) (c .if1 .left) in (f .n-to-32, f .s-to-8)
 
 fresh-requires : tie.Need-fresh-requires
-fresh-requires c κs = search needs
+fresh-requires c κs = tt
 
 copy-requires : tie.Need-copy-requires
 copy-requires c κs = let a = c .before .before .before .before .before .before .before .before .before .before .before .before .args in reset-length (a .self) (now (a .state)) (now (a .work)) (now (a .pivots)) (a .time) (now (a .values)) (c .before .before .before .before .reset-refusal .ensures) (c .before .before .before .if1 .left)
@@ -30,10 +30,10 @@ slice-aggregate-fill : tie.Need-slice-aggregate-fill
 slice-aggregate-fill c = let a = c .before .before .before .before .before .before .before .before .before .before .before .before .before .before .before .before .args in sym (length-take-le _ _ (rw (c .before .before .before .before .before .before .needed-work .ensures) (lent-work (reset-shape (a .self) (now (a .state)) (now (a .work)) (now (a .pivots)) (a .time) (now (a .values)) (c .before .before .before .before .before .before .before .before .reset-refusal .ensures) (c .before .before .before .before .before .before .before .if1 .left)))))
 
 fill-requires : tie.Need-fill-requires
-fill-requires c κs = search needs
+fill-requires c κs = tt
 
 zero-requires : tie.Need-zero-requires
-zero-requires c κs = search needs
+zero-requires c κs = tt
 
 same-length : tie.Need-same-length
 same-length c = search needs
