@@ -12,7 +12,7 @@ use Rattle.tableau.specs.File.{tableauOf, accepts, check}
 use Rattle.rosenbrock.specs.Tests.{fileTests}
 
 module _ (file : List ℕ) (s : ℕ) {r : ℕ} (e : r ≡ check file) where
-  checked : r ≡ cond (accepts file) 0 12
+  pub checked : r ≡ cond (accepts file) 0 12
   unfolding check
   checked = e
 

@@ -9,3 +9,6 @@ pub mod Passed
 pub mod Lines
 mod Files
 mod Shapes
+mod Tested
+mod Nexts
+mod Makings

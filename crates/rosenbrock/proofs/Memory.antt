@@ -1,7 +1,12 @@
 -- The needed work as a call leaves it, and the work beyond it. Assumes nothing.
-use Prim.Native.Nat.{ℕ}
-use mathlib.Core.Path.{_≡_}
-use lib.ListN.{length, drop}
+use Prim.Native.Nat.{ℕ, zero, suc, _+_, _≤_}
+use native.Mathlib.Omega.{arith}
+use mathlib.Core.Path.{_≡_, sym, ap, _∙_}
+use mathlib.Core.List.{List, _++_}
+use lib.ListN.{length, take, drop, set, take-append-drop}
+use lib.Seq.{length-take-le, set-append-left}
+use Rattle.vector.specs.Parts.{puts}
+use Rattle.vector.proofs.Stores.{length-puts}
 use Rattle.vector.proofs.Fronts.{take-front, drop-front, length-replaced}
 use Rattle.rosenbrock.specs.Answers.{Lent}
 use Rattle.rosenbrock.specs.Stepper.{Call, System, needed, trimmed, untrimmed, result, stepped}
@@ -42,3 +47,11 @@ module _ (c : Call) (y : System) where
   pub pivots-after : length (stepped c y .system .lent .pivots) ≡ length (y .lent .pivots)
   unfolding stepped untrimmed trimmed
   pivots-after = result-keeps .of-pivots
+
+-- a store into the needed work is a store into the whole
+pub puts-front : {A : Type 0} (k : ℕ) (w : List A) (at : ℕ) (f : ℕ → A) (n : ℕ) → at + n ≤ k → k ≤ length w → puts (take k w) at f n ++ drop k w ≡ puts w at f n
+unfolding puts
+puts-front k w at f zero h l = take-append-drop k w
+puts-front {A} k w at f (suc n) h l =
+    sym (set-append-left (puts (take k w) at f n) (drop k w) (at + n) (f n) (omega (arith, length-puts (take k w) at f n, length-take-le k w l)))
+    ∙ ap (λ (v : List A). set v (at + n) (f n)) (puts-front k w at f n (omega arith) l)

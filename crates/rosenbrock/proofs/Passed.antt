@@ -60,6 +60,12 @@ module _ (fx : Fixed) (x : Progress) (m : Lent) where
       let t₂ = passed 13 (isPending (x .request)) _ (t₁ .1) in
       (t₁ .0, t₂ .0)
 
+  pub inject-size : (derivative : List Float) → firstOf (injectTests fx derivative x m) ≡ 0 → length derivative ≡ fx .n
+  inject-size derivative e =
+      let t₁ = passed 17 (isOpen (x .request)) _ (fits-passed fx x m _ e .1) in
+      let t₂ = passed 13 (isPending (x .request)) _ (t₁ .1) in
+      eqb-true (length derivative) (fx .n) (held 0 (eqb (length derivative) (fx .n)) _ (t₂ .1) .0)
+
 pub record ResetPassed (fx : Fixed) (m : Lent) (time : Float) (state : List Float) : Type 0 where
   pub shape : LentShape fx m
   pub size : length state ≡ fx .n

@@ -29,7 +29,7 @@ tallied-nothing : (t : StepStatistics) → tallied nothingCounted t ≡ t
 unfolding tallied oneMore
 tallied-nothing t = refl
 
-untrimmed-same : (k : ℕ) (m : Lent) → untrimmed k m (trimmed k m) ≡ m
+pub untrimmed-same : (k : ℕ) (m : Lent) → untrimmed k m (trimmed k m) ≡ m
 unfolding untrimmed trimmed
 untrimmed-same k m = λ i. record { state = m .state; work = take-append-drop k (m .work) i; pivots = m .pivots }
 

@@ -1,9 +1,16 @@
 -- What the code hands back, in the terms of the definitions: record and lent memory as a system, and the answer with what it asks or shows.
 -- Definitions only.
-use Prim.Native.Nat.{ℕ}
-use mathlib.Core.List.{List}
+use Prim.Native.Nat.{ℕ, min}
+use mathlib.Core.Bool.{not}
+use mathlib.Core.List.{List, [], _∷_}
+use lib.ListN.{length}
+use lib.Dec.{eqb}
 use lib.Ieee.{Float}
+use Rattle.stepping.specs.Refusals.{dimension, unsupportedTableau, tableauFile, Test, _when_}
 use Rattle.time_difference.specs.declared.TimeDifferencePolicy.{TimeDifferencePolicy}
+use Rattle.tableau.specs.Tableau.{stagesOf}
+use Rattle.tableau.specs.File.{tableauOf, accepts}
+use Rattle.stages.specs.Layout.{neededWork}
 use Rattle.rosenbrock.specs.declared.Fixed.{Fixed}
 use Rattle.rosenbrock.specs.declared.Progress.{Progress}
 use Rattle.rosenbrock.specs.declared.RosenbrockStepper.{RosenbrockStepper}
@@ -14,6 +21,7 @@ use Rattle.rosenbrock.specs.declared.Making.{Making}
 use Rattle.rosenbrock.specs.declared.Making.the-variants as making
 use Rattle.rosenbrock.specs.Requests.{askOf}
 use Rattle.rosenbrock.specs.Answers.{Lent, lending, Answer, refused, asked, shown, done, requestOf, viewOf}
+use Rattle.rosenbrock.specs.Tests.{shapeFits, sizeTests, finiteTest}
 use Rattle.rosenbrock.specs.Stepper.{System, needed, trimmed, Next, Made, not-made, made, make}
 
 -- a record with the memory lent to it
@@ -54,3 +62,21 @@ makingOf file policy time m = let r = make file policy time m in afterMaking r (
 unfoldable pub madeBy : Making → List Float → List Float → List ℕ → AfterMaking
 madeBy (making.Made y) state work pivots = afterMaking (made (systemOf y state work pivots)) (lending state work pivots)
 madeBy (making.Refused k) state work pivots = afterMaking (not-made k) (lending state work pivots)
+
+-- ---- parts of the calls, as the code has them
+
+-- the first tests, from the lengths as they are lent
+abbrev pub lentTests : Fixed → Progress → ℕ → ℕ → ℕ → List Test
+lentTests fx x state work pivots = sizeTests (fx .n) (fx .s) (x .request) (x .stage) state (min (neededWork (fx .n) (fx .s)) work) pivots
+
+-- a making's tests
+abbrev pub newTests : List ℕ → Float → List Float → ℕ → ℕ → List Test
+newTests file time state work pivots =
+    let n = length state in
+    let s = stagesOf (tableauOf file) in
+    (tableauFile when not (accepts file))
+    ∷ (dimension when not (shapeFits n s n (min (neededWork n s) work) pivots))
+    ∷ finiteTest state
+    ∷ finiteTest (time ∷ [])
+    ∷ (unsupportedTableau when eqb (tableauOf file .counts .kind) 1)
+    ∷ []

@@ -1,16 +1,20 @@
 // The stepper's record and its calls.
 ghost use mathlib.Core.Path.{_≡_};
 ghost use mathlib.Core.Bool.{not};
+ghost use mathlib.Core.List.{[], _∷_, _++_};
 ghost use Prim.Native.Nat.{min, _≤_};
 ghost use lib.Dec.{ltb};
-ghost use lib.ListN.{getD};
+ghost use lib.ListN.{getD, length};
 ghost use Rattle.vector.specs.Lists.{every};
 ghost use Rattle.stepping.specs.Refusals.{firstOf};
 ghost use Rattle.stages.specs.Layout.{neededWork};
 ghost use Rattle.attempts.specs.Attempt.{wanted};
 ghost use Rattle.rosenbrock.specs.Requests.{askOf, askNumber, askStage, requestAfter, stageAfter, requestFits};
-ghost use Rattle.rosenbrock.specs.Tests.{shapeFits, sizeTests, fileTests, pivotsUnfit};
-ghost use Rattle.rosenbrock.specs.Stepper.{oneMore, tallied};
+ghost use Rattle.rosenbrock.specs.Tests.{shapeFits, sizeTests, fileTests, pivotsUnfit, openTest, pendingTest, candidateTest, requestTest, lengthTest, finiteTest};
+ghost use Rattle.rosenbrock.specs.Answers.{lending};
+ghost use Rattle.rosenbrock.specs.Calls.{memoAccepted, fresh};
+ghost use Rattle.rosenbrock.specs.Stepper.{oneMore, tallied, noStatistics, by-value, accept, reject, fail, inject-derivative, reset, stepped};
+ghost use Rattle.rosenbrock.specs.Contracts.{lentTests, newTests, systemOf, nextOf, madeBy, makingOf};
 use attempts::Ask;
 use attempts::Counted;
 use attempts::Ending;
@@ -252,5 +256,408 @@ fn tallied(counted: Counted, statistics: StepStatistics) -> StepStatistics
         jacobian_evaluations,
         factorizations,
         linear_solves,
+    }
+}
+
+// ---- the record
+
+// A step other than 0 clears both caches.
+fn memo_accepted(progress: Progress) -> Memo
+    ensures { λ r. ⌜ r ≡ memoAccepted progress ⌝ }
+{
+    let mut memo = progress.memo;
+    let step = progress.step;
+    if step == 0.0 {
+        return memo;
+    }
+    memo.derivative_valid = false;
+    memo.differentiation_valid = false;
+    memo
+}
+
+// What a making sets, and a reset again.
+fn fresh(time: f64) -> Progress
+    ensures { λ r. ⌜ r ≡ fresh time ⌝ }
+{
+    let memo = Memo {
+        derivative_valid: false,
+        differentiation_valid: false,
+        error_shown: false,
+        two_probes: false,
+        first_probe: 0.0,
+        second_probe: 0.0,
+        request_time: 0.0,
+    };
+    Progress {
+        time,
+        step: 0.0,
+        end: 0.0,
+        host_jacobian: false,
+        host_time_partial: false,
+        request: 0,
+        stage: 0,
+        memo,
+    }
+}
+
+// ---- each call's tests
+
+// accept and reject: 1, 18, 15.
+fn decision_refusal(
+    fixed: Fixed,
+    progress: Progress,
+    state: usize,
+    work: usize,
+    pivots: usize,
+) -> u32
+    ensures { λ r. ⌜ r ≡ firstOf (lentTests fixed progress state work pivots ++ (openTest progress ∷ candidateTest progress ∷ [])) ⌝ }
+{
+    let request = progress.request;
+    let number = fit_refusal(fixed.n, fixed.s, request, progress.stage, state, work, pivots);
+    if number != 0 {
+        return number;
+    }
+    if request >= 2 {
+        return stepping::ATTEMPT_OPEN;
+    }
+    if request != 1 {
+        return stepping::NO_CANDIDATE;
+    }
+    0
+}
+
+// fail: 1, 17.
+fn fail_refusal(fixed: Fixed, progress: Progress, state: usize, work: usize, pivots: usize) -> u32
+    ensures { λ r. ⌜ r ≡ firstOf (lentTests fixed progress state work pivots ++ (requestTest progress ∷ [])) ⌝ }
+{
+    let request = progress.request;
+    let number = fit_refusal(fixed.n, fixed.s, request, progress.stage, state, work, pivots);
+    if number != 0 {
+        return number;
+    }
+    if request < 2 {
+        return stepping::NO_REQUEST;
+    }
+    0
+}
+
+// inject_derivative: 1, 18, 14, 1, 2.
+fn inject_refusal(
+    fixed: Fixed,
+    progress: Progress,
+    derivative: &[f64],
+    state: usize,
+    work: usize,
+    pivots: usize,
+) -> u32
+    ensures { λ r. ⌜ r ≡ firstOf (lentTests fixed progress state work pivots ++ (openTest progress ∷ pendingTest progress ∷ lengthTest fixed (now (derivative .entry)) ∷ finiteTest (now (derivative .entry)) ∷ [])) ⌝ }
+{
+    let n = fixed.n;
+    let request = progress.request;
+    let number = fit_refusal(n, fixed.s, request, progress.stage, state, work, pivots);
+    if number != 0 {
+        return number;
+    }
+    if request >= 2 {
+        return stepping::ATTEMPT_OPEN;
+    }
+    if request == 1 {
+        return stepping::PENDING_CANDIDATE;
+    }
+    if derivative.len() != n {
+        return stepping::DIMENSION;
+    }
+    stepping::finite(derivative)
+}
+
+// reset: 1, 18, 1, 2.
+fn reset_refusal(
+    fixed: Fixed,
+    progress: Progress,
+    time: f64,
+    values: &[f64],
+    state: usize,
+    work: usize,
+    pivots: usize,
+) -> u32
+    ensures { λ r. ⌜ r ≡ firstOf (lentTests fixed progress state work pivots ++ (openTest progress ∷ lengthTest fixed (now (values .entry)) ∷ finiteTest (now (values .entry)) ∷ finiteTest (time ∷ []) ∷ [])) ⌝ }
+{
+    let n = fixed.n;
+    let request = progress.request;
+    let number = fit_refusal(n, fixed.s, request, progress.stage, state, work, pivots);
+    if number != 0 {
+        return number;
+    }
+    if request >= 2 {
+        return stepping::ATTEMPT_OPEN;
+    }
+    if values.len() != n {
+        return stepping::DIMENSION;
+    }
+    finite_refusal(values, time)
+}
+
+// 2 for the values, then for the time.
+fn finite_refusal(values: &[f64], time: f64) -> u32
+    ensures { λ r. ⌜ r ≡ firstOf (finiteTest (now (values .entry)) ∷ finiteTest (time ∷ []) ∷ []) ⌝ }
+{
+    if !vector::all_finite(values) {
+        return stepping::NON_FINITE;
+    }
+    if !float::is_finite(time) {
+        return stepping::NON_FINITE;
+    }
+    0
+}
+
+// A making: 12, 1, 2, 2, 3.
+fn making_refusal(file: &[u8], time: f64, state: &[f64], work: usize, pivots: usize) -> u32
+    ensures { λ r. ⌜ r ≡ firstOf (newTests (now (file .entry)) time (now (state .entry)) work pivots) ⌝ }
+{
+    if tableau::check(file) != 0 {
+        return stepping::TABLEAU_FILE;
+    }
+    let n = state.len();
+    if !shape_fits(n, tableau::stages(file), n, work, pivots) {
+        return stepping::DIMENSION;
+    }
+    let number = finite_refusal(state, time);
+    if number != 0 {
+        return number;
+    }
+    if tableau::kind(file) == 1 {
+        return stepping::UNSUPPORTED_TABLEAU;
+    }
+    0
+}
+
+fn no_statistics() -> StepStatistics
+    ensures { λ r. ⌜ r ≡ noStatistics ⌝ }
+{
+    StepStatistics {
+        attempts: 0,
+        rhs_evaluations: 0,
+        accepted_steps: 0,
+        rejected_steps: 0,
+        jacobian_evaluations: 0,
+        factorizations: 0,
+        linear_solves: 0,
+    }
+}
+
+// ---- the calls
+
+impl RosenbrockStepper {
+    // n is the length of the state, and s the file's. The needed work and the pivots are set to 0.
+    pub fn new(
+        file: &[u8],
+        policy: TimeDifferencePolicy,
+        time: f64,
+        state: &[f64],
+        work: &mut [f64],
+        pivots: &mut [usize],
+    ) -> Making
+        ensures { λ r. ⌜ madeBy r (now (state .entry)) (now (work .exit)) (now (pivots .exit))
+            ≡ makingOf (now (file .entry)) policy time (lending (now (state .entry)) (now (work .entry)) (now (pivots .entry))) ⌝ }
+    {
+        let number = making_refusal(file, time, state, work.len(), pivots.len());
+        if number != 0 {
+            return Making::Refused(number);
+        }
+        let n = state.len();
+        let s = tableau::stages(file);
+        let need = needed_work(n, s);
+        vector::fill(&mut work[..need], 0.0);
+        vector::zero(pivots);
+        let fixed = Fixed { n, s, policy };
+        let progress = fresh(time);
+        let statistics = no_statistics();
+        let stepper = RosenbrockStepper {
+            fixed,
+            progress,
+            statistics,
+        };
+        Making::Made(stepper)
+    }
+
+    pub fn accept(self, state: &mut [f64], work: &[f64], pivots: &[usize]) -> Outcome
+        ensures { λ r. ⌜ nextOf r (now (state .exit)) (now (work .entry)) (now (pivots .entry))
+            ≡ stepped (accept by-value) (systemOf self (now (state .entry)) (now (work .entry)) (now (pivots .entry))) ⌝ }
+    {
+        let fixed = self.fixed;
+        let mut progress = self.progress;
+        let mut statistics = self.statistics;
+        let n = fixed.n;
+        let number = decision_refusal(fixed, progress, state.len(), work.len(), pivots.len());
+        if number != 0 {
+            return Outcome {
+                stepper: self,
+                answer: Answer::Refused(number),
+            };
+        }
+        let memo = memo_accepted(progress);
+        vector::copy(state, &work[..n]);
+        progress.time = progress.time + progress.step;
+        progress.request = 0;
+        progress.stage = 0;
+        progress.memo = memo;
+        statistics.accepted_steps = float::saturating_increment(statistics.accepted_steps);
+        let stepper = RosenbrockStepper {
+            fixed,
+            progress,
+            statistics,
+        };
+        Outcome {
+            stepper,
+            answer: Answer::Done,
+        }
+    }
+
+    pub fn reject(self, state: &[f64], work: &[f64], pivots: &[usize]) -> Outcome
+        ensures { λ r. ⌜ nextOf r (now (state .entry)) (now (work .entry)) (now (pivots .entry))
+            ≡ stepped (reject by-value) (systemOf self (now (state .entry)) (now (work .entry)) (now (pivots .entry))) ⌝ }
+    {
+        let fixed = self.fixed;
+        let mut progress = self.progress;
+        let mut statistics = self.statistics;
+        let number = decision_refusal(fixed, progress, state.len(), work.len(), pivots.len());
+        if number != 0 {
+            return Outcome {
+                stepper: self,
+                answer: Answer::Refused(number),
+            };
+        }
+        progress.request = 0;
+        progress.stage = 0;
+        statistics.rejected_steps = float::saturating_increment(statistics.rejected_steps);
+        let stepper = RosenbrockStepper {
+            fixed,
+            progress,
+            statistics,
+        };
+        Outcome {
+            stepper,
+            answer: Answer::Done,
+        }
+    }
+
+    // The host could not answer: the attempt is closed, and nothing else changes.
+    pub fn fail(self, state: &[f64], work: &[f64], pivots: &[usize]) -> Outcome
+        ensures { λ r. ⌜ nextOf r (now (state .entry)) (now (work .entry)) (now (pivots .entry))
+            ≡ stepped fail (systemOf self (now (state .entry)) (now (work .entry)) (now (pivots .entry))) ⌝ }
+    {
+        let fixed = self.fixed;
+        let mut progress = self.progress;
+        let statistics = self.statistics;
+        let number = fail_refusal(fixed, progress, state.len(), work.len(), pivots.len());
+        if number != 0 {
+            return Outcome {
+                stepper: self,
+                answer: Answer::Refused(number),
+            };
+        }
+        progress.request = 0;
+        progress.stage = 0;
+        let stepper = RosenbrockStepper {
+            fixed,
+            progress,
+            statistics,
+        };
+        Outcome {
+            stepper,
+            answer: Answer::Refused(stepping::HOST_FAILURE),
+        }
+    }
+
+    pub fn inject_derivative(
+        self,
+        derivative: &[f64],
+        state: &[f64],
+        work: &mut [f64],
+        pivots: &[usize],
+    ) -> Outcome
+        ensures { λ r. ⌜ nextOf r (now (state .entry)) (now (work .exit)) (now (pivots .entry))
+            ≡ stepped (inject-derivative (now (derivative .entry))) (systemOf self (now (state .entry)) (now (work .entry)) (now (pivots .entry))) ⌝ }
+    {
+        let fixed = self.fixed;
+        let mut progress = self.progress;
+        let statistics = self.statistics;
+        let mut memo = progress.memo;
+        let n = fixed.n;
+        let number = inject_refusal(
+            fixed,
+            progress,
+            derivative,
+            state.len(),
+            work.len(),
+            pivots.len(),
+        );
+        if number != 0 {
+            return Outcome {
+                stepper: self,
+                answer: Answer::Refused(number),
+            };
+        }
+        vector::put(work, 3 * n, derivative);
+        memo.derivative_valid = true;
+        memo.differentiation_valid = false;
+        progress.memo = memo;
+        let stepper = RosenbrockStepper {
+            fixed,
+            progress,
+            statistics,
+        };
+        Outcome {
+            stepper,
+            answer: Answer::Done,
+        }
+    }
+
+    // A new start of the same size. The needed work and the pivots are set to 0, as by a making.
+    pub fn reset(
+        self,
+        time: f64,
+        values: &[f64],
+        state: &mut [f64],
+        work: &mut [f64],
+        pivots: &mut [usize],
+    ) -> Outcome
+        ensures { λ r. ⌜ nextOf r (now (state .exit)) (now (work .exit)) (now (pivots .exit))
+            ≡ stepped (reset time (now (values .entry))) (systemOf self (now (state .entry)) (now (work .entry)) (now (pivots .entry))) ⌝ }
+    {
+        let fixed = self.fixed;
+        let before = self.progress;
+        let statistics = self.statistics;
+        let n = fixed.n;
+        let s = fixed.s;
+        let number = reset_refusal(
+            fixed,
+            before,
+            time,
+            values,
+            state.len(),
+            work.len(),
+            pivots.len(),
+        );
+        if number != 0 {
+            return Outcome {
+                stepper: self,
+                answer: Answer::Refused(number),
+            };
+        }
+        let need = needed_work(n, s);
+        let progress = fresh(time);
+        vector::copy(state, values);
+        vector::fill(&mut work[..need], 0.0);
+        vector::zero(pivots);
+        let stepper = RosenbrockStepper {
+            fixed,
+            progress,
+            statistics,
+        };
+        Outcome {
+            stepper,
+            answer: Answer::Done,
+        }
     }
 }

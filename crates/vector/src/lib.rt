@@ -1,4 +1,5 @@
 // Vectors of doubles: copied, filled, tested; a part of a long vector, written and read at an offset.
+// Vectors of numbers: set to 0.
 ghost use mathlib.Core.Path.{_≡_};
 ghost use mathlib.Core.Bool.{_&&_};
 ghost use lib.Ieee.Scale.{finite};
@@ -55,6 +56,17 @@ pub fn fill(dst: &mut [f64], v: f64)
     let mut i = 0;
     while i < dst.len() {
         dst[i] = v;
+        i += 1;
+    }
+}
+
+// Sets each number to 0.
+pub fn zero(dst: &mut [usize])
+    ensures { λ _. ⌜ now (dst .exit) ≡ replicate (length (now (dst .entry))) 0 ⌝ }
+{
+    let mut i = 0;
+    while i < dst.len() {
+        dst[i] = 0;
         i += 1;
     }
 }

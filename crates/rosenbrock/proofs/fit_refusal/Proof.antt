@@ -1,18 +1,17 @@
 -- `rosenbrock::fit_refusal` meets its contract: test by test. Assumes nothing.
-use borrow.Author.Needs.{needs}
 use Rattle.rosenbrock.specs.Requests.{requestFits}
 use Rattle.stepping.proofs.Refusals.{first-fails, second-fails, none-fails}
 use Rattle.rosenbrock.proofs.fit_refusal.Statement.{statement}
 use Rattle.rosenbrock.proofs.fit_refusal.Tie as tie
 
 shape-fits-requires : tie.Need-shape-fits-requires
-shape-fits-requires c κs = search needs
+shape-fits-requires c κs = tt
 
 returns : tie.Need-returns
 returns c = first-fails 1 1 _ (let s = c .before .before .args in requestFits (s .n) (s .s) (s .request) (s .stage)) (c .before .shape-fits .ensures) (c .if1 .taken)
 
 request-fits-requires : tie.Need-request-fits-requires
-request-fits-requires c κs = search needs
+request-fits-requires c κs = tt
 
 returns-2 : tie.Need-returns-2
 returns-2 c = second-fails 1 1 _ _ (c .before .before .before .shape-fits .ensures) (c .before .before .if1 .left) (c .before .request-fits .ensures) (c .if2 .taken)

@@ -1,5 +1,4 @@
 -- `rosenbrock::one_more` meets its contract. Assumes nothing.
-use borrow.Author.Needs.{needs}
 use mathlib.Core.Path.{refl}
 use Rattle.float.proofs.Cases.{yes, no}
 use Rattle.rosenbrock.specs.Stepper.{oneMore}
@@ -7,7 +6,7 @@ use Rattle.rosenbrock.proofs.one_more.Statement.{statement}
 use Rattle.rosenbrock.proofs.one_more.Tie as tie
 
 saturating-increment-requires : tie.Need-saturating-increment-requires
-saturating-increment-requires c κs = search needs
+saturating-increment-requires c κs = tt
 
 returns : tie.Need-returns
 unfolding oneMore

@@ -1,30 +1,29 @@
 -- `rosenbrock::tallied` meets its contract: counter by counter. Assumes nothing.
-use borrow.Author.Needs.{needs}
 use mathlib.Core.Path.{_≡_}
 use Rattle.rosenbrock.specs.Stepper.{tallied}
 use Rattle.rosenbrock.proofs.tallied.Statement.{statement}
 use Rattle.rosenbrock.proofs.tallied.Tie as tie
 
 one-more-requires : tie.Need-one-more-requires
-one-more-requires c κs = search needs
+one-more-requires c κs = tt
 
 one-more-requires-2 : tie.Need-one-more-requires-2
-one-more-requires-2 c κs = search needs
+one-more-requires-2 c κs = tt
 
 one-more-requires-3 : tie.Need-one-more-requires-3
-one-more-requires-3 c κs = search needs
+one-more-requires-3 c κs = tt
 
 one-more-requires-4 : tie.Need-one-more-requires-4
-one-more-requires-4 c κs = search needs
+one-more-requires-4 c κs = tt
 
 one-more-requires-5 : tie.Need-one-more-requires-5
-one-more-requires-5 c κs = search needs
+one-more-requires-5 c κs = tt
 
 one-more-requires-6 : tie.Need-one-more-requires-6
-one-more-requires-6 c κs = search needs
+one-more-requires-6 c κs = tt
 
 one-more-requires-7 : tie.Need-one-more-requires-7
-one-more-requires-7 c κs = search needs
+one-more-requires-7 c κs = tt
 
 returns : tie.Need-returns
 unfolding tallied
