@@ -21,7 +21,13 @@ ghost use Rattle.host.specs.Factors.{handed, numbered, rawTested};
 ghost use Rattle.tableau.specs.Tableau.{present, stagesOf, gammaOf, aOf, couplingOf, cOf, dOf, bOf, btildeOf};
 ghost use Rattle.tableau.specs.File.{tableauOf, check};
 ghost use Rattle.tableau.specs.Same.{same};
+ghost use Rattle.rosenbrock.specs.Answers.{lending};
+ghost use Rattle.rosenbrock.specs.Stepper.{stepped};
+ghost use Rattle.rosenbrock.specs.Stepper as call;
+ghost use Rattle.rosenbrock.specs.Contracts.{systemOf, makingOf};
+ghost use Rattle.host.specs.Stepper.{ofOutcome, stepHanded, asNumbers, blankStepper, makingHanded, makingAsNumbers};
 ghost use Rattle.host.specs.Answers.{ofChecked, ofEndpoint, ofProbes, policyOf, ofSameness, ofNorm, ofFirstStep, ofNextStep, ofAssessed};
+use attempts::Memo;
 use controller::AdaptiveController;
 use controller::Assessment;
 use controller::NextStep;
@@ -29,6 +35,12 @@ use controller::Settled;
 use initial_step::FirstStep;
 use linear::Factorization;
 use norm::Norm;
+use rosenbrock::Fixed;
+use rosenbrock::Making;
+use rosenbrock::Outcome;
+use rosenbrock::Progress;
+use rosenbrock::RosenbrockStepper;
+use rosenbrock::StepStatistics;
 use settings::ControllerConfig;
 use settings::ControllerState;
 use settings::Settings;
@@ -73,6 +85,22 @@ pub struct AssessAnswer {
     pub forced: bool,
     pub next_step: f64,
     pub error: f64,
+}
+
+// The stepper's record after a call. kind: 0 refused, with the refusal's number; 1 asked, 2 shown,
+// 3 done, with the number 0.
+#[repr(C)]
+pub struct StepperAnswer {
+    pub stepper: RosenbrockStepper,
+    pub kind: u32,
+    pub number: u32,
+}
+
+// number: the refusal, 0 for none. The record is blank where it is refused.
+#[repr(C)]
+pub struct MakingAnswer {
+    pub stepper: RosenbrockStepper,
+    pub number: u32,
 }
 
 #[no_mangle]
@@ -517,4 +545,170 @@ pub extern "C" fn wiqhano_controller_assess(
             error,
         },
     }
+}
+
+// ---- the stepper
+
+fn step_answer(outcome: Outcome) -> StepperAnswer
+    ensures { λ r. ⌜ r ≡ ofOutcome outcome ⌝ }
+{
+    let stepper = outcome.stepper;
+    let answer = outcome.answer;
+    match answer {
+        rosenbrock::Answer::Asked => StepperAnswer {
+            stepper,
+            kind: 1,
+            number: 0,
+        },
+        rosenbrock::Answer::Shown => StepperAnswer {
+            stepper,
+            kind: 2,
+            number: 0,
+        },
+        rosenbrock::Answer::Done => StepperAnswer {
+            stepper,
+            kind: 3,
+            number: 0,
+        },
+        rosenbrock::Answer::Refused(number) => StepperAnswer {
+            stepper,
+            kind: 0,
+            number,
+        },
+    }
+}
+
+// A record without a stepper: n and s are 0, so that every call refuses it with 1.
+fn blank_stepper() -> RosenbrockStepper
+    ensures { λ r. ⌜ r ≡ blankStepper ⌝ }
+{
+    let bounds = Bounds {
+        present: false,
+        lo: 0.0,
+        hi: 0.0,
+    };
+    let policy = TimeDifferencePolicy {
+        scale: 0.0,
+        relative_step: 0.0,
+        maximum_fraction: 0.0,
+        bounds,
+    };
+    let memo = Memo {
+        derivative_valid: false,
+        differentiation_valid: false,
+        error_shown: false,
+        two_probes: false,
+        first_probe: 0.0,
+        second_probe: 0.0,
+        request_time: 0.0,
+    };
+    let fixed = Fixed { n: 0, s: 0, policy };
+    let progress = Progress {
+        time: 0.0,
+        step: 0.0,
+        end: 0.0,
+        host_jacobian: false,
+        host_time_partial: false,
+        request: 0,
+        stage: 0,
+        memo,
+    };
+    let statistics = StepStatistics {
+        attempts: 0,
+        rhs_evaluations: 0,
+        accepted_steps: 0,
+        rejected_steps: 0,
+        jacobian_evaluations: 0,
+        factorizations: 0,
+        linear_solves: 0,
+    };
+    RosenbrockStepper {
+        fixed,
+        progress,
+        statistics,
+    }
+}
+
+#[no_mangle]
+pub extern "C" fn wiqhano_stepper_new(
+    file: &[u8],
+    policy: TimeDifferencePolicy,
+    time: f64,
+    state: &[f64],
+    work: &mut [f64],
+    pivots: &mut [usize],
+) -> MakingAnswer
+    ensures { λ r. ⌜ makingHanded r (lending (now (state .entry)) (now (work .exit)) (now (pivots .exit)))
+        ≡ makingAsNumbers (makingOf (now (file .entry)) policy time (lending (now (state .entry)) (now (work .entry)) (now (pivots .entry)))) ⌝ }
+{
+    match RosenbrockStepper::new(file, policy, time, state, work, pivots) {
+        Making::Made(stepper) => MakingAnswer { stepper, number: 0 },
+        Making::Refused(number) => {
+            let stepper = blank_stepper();
+            MakingAnswer { stepper, number }
+        }
+    }
+}
+
+#[no_mangle]
+pub extern "C" fn wiqhano_stepper_fail(
+    stepper: RosenbrockStepper,
+    state: &[f64],
+    work: &[f64],
+    pivots: &[usize],
+) -> StepperAnswer
+    ensures { λ r. ⌜ stepHanded r (lending (now (state .entry)) (now (work .entry)) (now (pivots .entry))) ≡ asNumbers (stepped call.fail (systemOf stepper (now (state .entry)) (now (work .entry)) (now (pivots .entry)))) ⌝ }
+{
+    step_answer(stepper.fail(state, work, pivots))
+}
+
+#[no_mangle]
+pub extern "C" fn wiqhano_stepper_accept(
+    stepper: RosenbrockStepper,
+    state: &mut [f64],
+    work: &[f64],
+    pivots: &[usize],
+) -> StepperAnswer
+    ensures { λ r. ⌜ stepHanded r (lending (now (state .exit)) (now (work .entry)) (now (pivots .entry))) ≡ asNumbers (stepped (call.accept call.by-value) (systemOf stepper (now (state .entry)) (now (work .entry)) (now (pivots .entry)))) ⌝ }
+{
+    step_answer(stepper.accept(state, work, pivots))
+}
+
+#[no_mangle]
+pub extern "C" fn wiqhano_stepper_reject(
+    stepper: RosenbrockStepper,
+    state: &[f64],
+    work: &[f64],
+    pivots: &[usize],
+) -> StepperAnswer
+    ensures { λ r. ⌜ stepHanded r (lending (now (state .entry)) (now (work .entry)) (now (pivots .entry))) ≡ asNumbers (stepped (call.reject call.by-value) (systemOf stepper (now (state .entry)) (now (work .entry)) (now (pivots .entry)))) ⌝ }
+{
+    step_answer(stepper.reject(state, work, pivots))
+}
+
+#[no_mangle]
+pub extern "C" fn wiqhano_stepper_inject_derivative(
+    stepper: RosenbrockStepper,
+    derivative: &[f64],
+    state: &[f64],
+    work: &mut [f64],
+    pivots: &[usize],
+) -> StepperAnswer
+    ensures { λ r. ⌜ stepHanded r (lending (now (state .entry)) (now (work .exit)) (now (pivots .entry))) ≡ asNumbers (stepped (call.inject-derivative (now (derivative .entry))) (systemOf stepper (now (state .entry)) (now (work .entry)) (now (pivots .entry)))) ⌝ }
+{
+    step_answer(stepper.inject_derivative(derivative, state, work, pivots))
+}
+
+#[no_mangle]
+pub extern "C" fn wiqhano_stepper_reset(
+    stepper: RosenbrockStepper,
+    time: f64,
+    values: &[f64],
+    state: &mut [f64],
+    work: &mut [f64],
+    pivots: &mut [usize],
+) -> StepperAnswer
+    ensures { λ r. ⌜ stepHanded r (lending (now (state .exit)) (now (work .exit)) (now (pivots .exit))) ≡ asNumbers (stepped (call.reset time (now (values .entry))) (systemOf stepper (now (state .entry)) (now (work .entry)) (now (pivots .entry)))) ⌝ }
+{
+    step_answer(stepper.reset(time, values, state, work, pivots))
 }

@@ -313,7 +313,15 @@ fn decision_refusal(
     ensures { λ r. ⌜ r ≡ firstOf (lentTests fixed progress state work pivots ++ (openTest progress ∷ candidateTest progress ∷ [])) ⌝ }
 {
     let request = progress.request;
-    let number = fit_refusal(fixed.n, fixed.s, request, progress.stage, state, work, pivots);
+    let number = fit_refusal(
+        fixed.n,
+        fixed.s,
+        request,
+        progress.stage,
+        state,
+        work,
+        pivots,
+    );
     if number != 0 {
         return number;
     }
@@ -331,7 +339,15 @@ fn fail_refusal(fixed: Fixed, progress: Progress, state: usize, work: usize, piv
     ensures { λ r. ⌜ r ≡ firstOf (lentTests fixed progress state work pivots ++ (requestTest progress ∷ [])) ⌝ }
 {
     let request = progress.request;
-    let number = fit_refusal(fixed.n, fixed.s, request, progress.stage, state, work, pivots);
+    let number = fit_refusal(
+        fixed.n,
+        fixed.s,
+        request,
+        progress.stage,
+        state,
+        work,
+        pivots,
+    );
     if number != 0 {
         return number;
     }
