@@ -12,3 +12,4 @@ mod Shapes
 mod Tested
 mod Nexts
 mod Makings
+mod Stops

@@ -27,26 +27,14 @@ use Rattle.rosenbrock.specs.Answers.{Lent, lending, refused, done, candi
 use Rattle.rosenbrock.specs.Answers as Answers
 use Rattle.rosenbrock.specs.Tests.{decisionTests, failTests, injectTests, resetTests, openTest, pendingTest, candidateTest, requestTest, lengthTest, finiteTest}
 use Rattle.rosenbrock.specs.Calls.{Out, refusal, guarded, progressAfter, memoAccepted, accepted, acceptOf, rejected, rejectOf, failed, failOf, injected, injectOf, fresh, cleared, restarted, resetOf}
-use Rattle.rosenbrock.specs.Stepper.{Call, by-value, accept, reject, fail, inject-derivative, reset, called, oneMore, tallied, needed, trimmed, untrimmed, Next, result, stepped}
-use Rattle.rosenbrock.specs.Contracts.{systemOf, answerBy, nextOf, lentTests}
+use Rattle.rosenbrock.specs.Stepper.{Call, by-value, accept, reject, fail, inject-derivative, reset, called, oneMore, tallied, needed, trimmed, untrimmed, result, stepped}
+use Rattle.rosenbrock.specs.Contracts.{systemOf, answerBy, nextOf, nextBy, lentTests}
 use Rattle.rosenbrock.proofs.Guards.{guarded-passed}
 use Rattle.rosenbrock.proofs.Readers.{untrimmed-same}
 use Rattle.rosenbrock.proofs.Memory.{puts-front}
 use Rattle.rosenbrock.proofs.Tested.{cut, fitted, lent-work, vectors-in}
 use Rattle.rosenbrock.proofs.Fitting.{Shape}
 use Rattle.rosenbrock.proofs.Passed.{inject-size, reset-passed}
-
--- a record and its memory as a call leaves them
-nextBy : RosenbrockStepper → Lent → Out → Next
-nextBy y m o =
-    record {
-      system =
-          record {
-            stepper = record { fixed = y .fixed; progress = o .progress; statistics = tallied (o .counted) (y .statistics) };
-            lent = untrimmed (needed (y .fixed)) m (o .lent);
-          };
-      answer = o .answer;
-    }
 
 -- what the code hands back: the record as it was fixed, with what was moved
 abbrev left : RosenbrockStepper → Progress → StepStatistics → Answer → Outcome
