@@ -13,3 +13,4 @@ mod Tested
 mod Nexts
 mod Makings
 mod Stops
+mod Attempts

@@ -1,7 +1,7 @@
 -- What the code hands back, in the terms of the definitions: record and lent memory as a system, and the answer with what it asks or shows.
 -- Definitions only.
 use Prim.Native.Nat.{ℕ, min}
-use mathlib.Core.Bool.{not}
+use mathlib.Core.Bool.{Bool, false, not}
 use mathlib.Core.List.{List, [], _∷_}
 use lib.ListN.{length}
 use lib.Dec.{eqb}
@@ -12,6 +12,8 @@ use Rattle.tableau.specs.Tableau.{stagesOf}
 use Rattle.tableau.specs.File.{tableauOf, accepts}
 use Rattle.stages.specs.Layout.{neededWork}
 use Rattle.attempts.specs.declared.Setting.{Setting}
+use Rattle.attempts.specs.declared.Memo.{Memo}
+use Rattle.attempts.specs.declared.Marks.{Marks}
 use Rattle.attempts.specs.declared.Ending.{Ending}
 use Rattle.attempts.specs.declared.Ending.the-variants.{Asks, Ends, Shows}
 use Rattle.attempts.specs.declared.Stop.{Stop}
@@ -117,6 +119,23 @@ settingBy fx x =
       step = x .step;
       «host_jacobian» = x .«host_jacobian»;
       «host_time_partial» = x .«host_time_partial»;
+    }
+
+-- its marks as a call hands them over; an attempt counts itself
+unfoldable pub marksBy : Memo → Bool → Marks
+marksBy memo attempt =
+    record {
+      memo = memo;
+      counted =
+          record {
+            attempts = attempt;
+            «rhs_evaluations» = false;
+            «accepted_steps» = false;
+            «rejected_steps» = false;
+            «jacobian_evaluations» = false;
+            factorizations = false;
+            «linear_solves» = false;
+          };
     }
 
 -- what is answered where it stopped, and the record there

@@ -1,6 +1,6 @@
 // The stepper's record and its calls.
 ghost use mathlib.Core.Path.{_≡_};
-ghost use mathlib.Core.Bool.{not, cond};
+ghost use mathlib.Core.Bool.{true, not, cond};
 ghost use mathlib.Core.List.{[], _∷_, _++_};
 ghost use Prim.Native.Nat.{min, _*_, _≤_};
 ghost use lib.Dec.{eqb, ltb};
@@ -12,16 +12,18 @@ ghost use Rattle.attempts.specs.Attempt.{wanted};
 ghost use Rattle.rosenbrock.specs.Requests.{askOf, askNumber, askStage, requestAfter, stageAfter, requestFits};
 ghost use Rattle.rosenbrock.specs.Tests.{shapeFits, sizeTests, fileTests, pivotsUnfit, openTest, pendingTest, candidateTest, requestTest, lengthTest, finiteTest, stepTests};
 ghost use Rattle.rosenbrock.specs.Answers.{lending};
-ghost use Rattle.rosenbrock.specs.Calls.{memoAccepted, fresh, opening};
-ghost use Rattle.rosenbrock.specs.Stepper.{oneMore, tallied, noStatistics, by-value, accept, reject, fail, inject-derivative, reset, stepped};
-ghost use Rattle.rosenbrock.specs.Contracts.{lentTests, newTests, answerTests, settingBy, answerAfter, outcomeAfter, systemOf, nextOf, madeBy, makingOf};
+ghost use Rattle.rosenbrock.specs.Calls.{memoAccepted, fresh, opening, attemptBy};
+ghost use Rattle.rosenbrock.specs.Stepper.{oneMore, tallied, noStatistics, needed, trimmed, by-value, attempt, attempt-to, supply, fail, accept, reject, inject-derivative, reset, stepped};
+ghost use Rattle.rosenbrock.specs.Contracts.{lentTests, newTests, answerTests, settingBy, marksBy, answerAfter, outcomeAfter, systemOf, nextOf, nextBy, madeBy, makingOf};
 use attempts::Ask;
 use attempts::Counted;
 use attempts::Ending;
+use attempts::Marks;
 use attempts::Memo;
 use attempts::Setting;
 use attempts::Stop;
 use stepping::Checked;
+use stepping::Endpoint;
 use time_difference::TimeDifferencePolicy;
 
 // What the making fixed: components, stages, and how the time partial is probed.
@@ -335,12 +337,7 @@ fn fresh(time: f64) -> Progress
 
 // The record as an attempt opens: the end is the time plus the step, rounded once, and the
 // effective step is the end minus the time.
-fn opening(
-    progress: Progress,
-    step: f64,
-    host_jacobian: bool,
-    host_time_partial: bool,
-) -> Progress
+fn opening(progress: Progress, step: f64, host_jacobian: bool, host_time_partial: bool) -> Progress
     ensures { λ r. ⌜ r ≡ opening step «host_jacobian» «host_time_partial» progress ⌝ }
 {
     let end = progress.time + step;
@@ -368,6 +365,21 @@ fn setting_of(fixed: Fixed, progress: Progress) -> Setting
         host_jacobian: progress.host_jacobian,
         host_time_partial: progress.host_time_partial,
     }
+}
+
+fn marks_of(memo: Memo, attempts: bool) -> Marks
+    ensures { λ r. ⌜ r ≡ marksBy memo attempts ⌝ }
+{
+    let counted = Counted {
+        attempts,
+        rhs_evaluations: false,
+        accepted_steps: false,
+        rejected_steps: false,
+        jacobian_evaluations: false,
+        factorizations: false,
+        linear_solves: false,
+    };
+    Marks { memo, counted }
 }
 
 // The record where an open attempt stopped, and the answer.
@@ -405,7 +417,15 @@ fn decision_refusal(
     ensures { λ r. ⌜ r ≡ firstOf (lentTests fixed progress state work pivots ++ (openTest progress ∷ candidateTest progress ∷ [])) ⌝ }
 {
     let request = progress.request;
-    let number = fit_refusal(fixed.n, fixed.s, request, progress.stage, state, work, pivots);
+    let number = fit_refusal(
+        fixed.n,
+        fixed.s,
+        request,
+        progress.stage,
+        state,
+        work,
+        pivots,
+    );
     if number != 0 {
         return number;
     }
@@ -423,7 +443,15 @@ fn fail_refusal(fixed: Fixed, progress: Progress, state: usize, work: usize, piv
     ensures { λ r. ⌜ r ≡ firstOf (lentTests fixed progress state work pivots ++ (requestTest progress ∷ [])) ⌝ }
 {
     let request = progress.request;
-    let number = fit_refusal(fixed.n, fixed.s, request, progress.stage, state, work, pivots);
+    let number = fit_refusal(
+        fixed.n,
+        fixed.s,
+        request,
+        progress.stage,
+        state,
+        work,
+        pivots,
+    );
     if number != 0 {
         return number;
     }
@@ -660,6 +688,171 @@ impl RosenbrockStepper {
             statistics,
         };
         Making::Made(stepper)
+    }
+
+    // An attempt whose first tests are passed.
+    fn attempt_by(
+        self,
+        file: &[u8],
+        step: f64,
+        host_jacobian: bool,
+        host_time_partial: bool,
+        state: &[f64],
+        work: &mut [f64],
+        pivots: &mut [usize],
+    ) -> Outcome
+        requires { ⌜ shapeFits (self .fixed .n) (self .fixed .s) (length (now state)) (min (neededWork (self .fixed .n) (self .fixed .s)) (length (now work))) (length (now pivots)) ≡ true ⌝ }
+        ensures { λ r. ⌜ nextOf r (now (state .entry)) (now (work .exit)) (now (pivots .exit))
+            ≡ (let m = lending (now (state .entry)) (now (work .entry)) (now (pivots .entry)) in
+            nextBy self m (attemptBy (self .fixed) (now (file .entry)) step «host_jacobian» «host_time_partial» (self .progress) (trimmed (needed (self .fixed)) m))) ⌝ }
+    {
+        let fixed = self.fixed;
+        let before = self.progress;
+        let statistics = self.statistics;
+        let n = fixed.n;
+        let s = fixed.s;
+        let number = step_refusal(before, step);
+        if number != 0 {
+            return Outcome {
+                stepper: self,
+                answer: Answer::Refused(number),
+            };
+        }
+        let need = needed_work(n, s);
+        let progress = opening(before, step, host_jacobian, host_time_partial);
+        let setting = setting_of(fixed, progress);
+        let memo = progress.memo;
+        let marks = marks_of(memo, true);
+        let stop = attempts::start(setting, file, state, &mut work[..need], pivots, marks);
+        settled(fixed, progress, statistics, stop)
+    }
+
+    // Opens an attempt over a step.
+    pub fn attempt(
+        self,
+        file: &[u8],
+        step: f64,
+        host_jacobian: bool,
+        host_time_partial: bool,
+        state: &[f64],
+        work: &mut [f64],
+        pivots: &mut [usize],
+    ) -> Outcome
+        ensures { λ r. ⌜ nextOf r (now (state .entry)) (now (work .exit)) (now (pivots .exit))
+            ≡ stepped (attempt (now (file .entry)) step «host_jacobian» «host_time_partial») (systemOf self (now (state .entry)) (now (work .entry)) (now (pivots .entry))) ⌝ }
+    {
+        let fixed = self.fixed;
+        let progress = self.progress;
+        let number = attempt_refusal(fixed, progress, file, state.len(), work.len(), pivots.len());
+        if number != 0 {
+            return Outcome {
+                stepper: self,
+                answer: Answer::Refused(number),
+            };
+        }
+        self.attempt_by(
+            file,
+            step,
+            host_jacobian,
+            host_time_partial,
+            state,
+            work,
+            pivots,
+        )
+    }
+
+    // Opens an attempt over a proposed step, cut at the endpoint.
+    pub fn attempt_to(
+        self,
+        file: &[u8],
+        endpoint: f64,
+        proposal: f64,
+        host_jacobian: bool,
+        host_time_partial: bool,
+        state: &[f64],
+        work: &mut [f64],
+        pivots: &mut [usize],
+    ) -> Outcome
+        ensures { λ r. ⌜ nextOf r (now (state .entry)) (now (work .exit)) (now (pivots .exit))
+            ≡ stepped (attempt-to (now (file .entry)) endpoint proposal «host_jacobian» «host_time_partial») (systemOf self (now (state .entry)) (now (work .entry)) (now (pivots .entry))) ⌝ }
+    {
+        let fixed = self.fixed;
+        let progress = self.progress;
+        let time = progress.time;
+        let number = attempt_refusal(fixed, progress, file, state.len(), work.len(), pivots.len());
+        if number != 0 {
+            return Outcome {
+                stepper: self,
+                answer: Answer::Refused(number),
+            };
+        }
+        match stepping::endpoint_step(time, endpoint, proposal) {
+            Endpoint::Step(step) => self.attempt_by(
+                file,
+                step,
+                host_jacobian,
+                host_time_partial,
+                state,
+                work,
+                pivots,
+            ),
+            Endpoint::Refused(number) => Outcome {
+                stepper: self,
+                answer: Answer::Refused(number),
+            },
+        }
+    }
+
+    // Answers what is asked, and goes on to the next request, a refusal or the step.
+    pub fn supply(
+        self,
+        file: &[u8],
+        values: &[f64],
+        state: &[f64],
+        work: &mut [f64],
+        pivots: &mut [usize],
+    ) -> Outcome
+        ensures { λ r. ⌜ nextOf r (now (state .entry)) (now (work .exit)) (now (pivots .exit))
+            ≡ stepped (supply (now (file .entry)) (now (values .entry))) (systemOf self (now (state .entry)) (now (work .entry)) (now (pivots .entry))) ⌝ }
+    {
+        let fixed = self.fixed;
+        let progress = self.progress;
+        let statistics = self.statistics;
+        let n = fixed.n;
+        let s = fixed.s;
+        let request = progress.request;
+        let stage = progress.stage;
+        let memo = progress.memo;
+        let number = supply_refusal(
+            fixed,
+            progress,
+            file,
+            values.len(),
+            state.len(),
+            work.len(),
+            pivots,
+        );
+        if number != 0 {
+            return Outcome {
+                stepper: self,
+                answer: Answer::Refused(number),
+            };
+        }
+        let need = needed_work(n, s);
+        let setting = setting_of(fixed, progress);
+        let marks = marks_of(memo, false);
+        let ask = ask_of(request, stage);
+        let stop = attempts::resume(
+            setting,
+            file,
+            state,
+            &mut work[..need],
+            pivots,
+            marks,
+            ask,
+            values,
+        );
+        settled(fixed, progress, statistics, stop)
     }
 
     pub fn accept(self, state: &mut [f64], work: &[f64], pivots: &[usize]) -> Outcome
