@@ -1,5 +1,5 @@
 -- From how an open attempt stopped to the one equation with `stepped`: attempt, attempt_to, supply. Assumes nothing.
-use Prim.Native.Nat.{ℕ, min, _≤_, _<_, _*_}
+use Prim.Native.Nat.{ℕ, min, _≤_}
 use native.Mathlib.Omega.{arith}
 use native.Mathlib.Nat.{mul-le-mul}
 use mathlib.Core.Path.{_≡_, refl, sym, ap, _∙_, subst}
@@ -17,16 +17,14 @@ use Rattle.stepping.specs.declared.Endpoint.{Endpoint}
 use Rattle.stepping.specs.declared.Endpoint.the-variants as endpoint
 use Rattle.stepping.specs.Time.{endpointStep}
 use Rattle.tableau.specs.File.{tableauOf}
-use Rattle.stages.specs.Layout.{neededWork, Room}
+use Rattle.stages.specs.Layout.{neededWork}
 use Rattle.attempts.specs.declared.Setting.{Setting}
 use Rattle.attempts.specs.declared.Memo.{Memo}
 use Rattle.attempts.specs.declared.Marks.{Marks}
 use Rattle.attempts.specs.declared.Ask.{Ask}
-use Rattle.attempts.specs.declared.Ask.the-variants.{Column, Stage}
 use Rattle.attempts.specs.declared.Ending.{Ending}
 use Rattle.attempts.specs.declared.Ending.the-variants.{Asks, Ends, Shows}
 use Rattle.attempts.specs.declared.Stop.{Stop}
-use Rattle.attempts.specs.Marks.{nothingCounted, oneAttempt}
 use Rattle.attempts.specs.Attempt.{Stopped, given, scratch, stopped, wanted, start, resume}
 use Rattle.attempts.specs.Calls.{Sizes, Answers}
 use Rattle.attempts.proofs.Requests.{AskInRange}
@@ -35,14 +33,14 @@ use Rattle.rosenbrock.specs.declared.Progress.{Progress}
 use Rattle.rosenbrock.specs.declared.RosenbrockStepper.{RosenbrockStepper}
 use Rattle.rosenbrock.specs.declared.Answer.the-variants.{Refused}
 use Rattle.rosenbrock.specs.declared.Outcome.{Outcome}
-use Rattle.rosenbrock.specs.Requests.{isOpen, askOf, askNumber, askStage, requestAfter, stageAfter, requestFits}
+use Rattle.rosenbrock.specs.Requests.{askOf, askNumber, askStage, requestAfter, stageAfter}
 use Rattle.rosenbrock.specs.Answers.{Lent, lending, asked, requestOf, answerOf}
-use Rattle.rosenbrock.specs.Tests.{shapeFits, attemptTests, stepTests, supplyTests, fileTests, openTest, requestTest, pivotsUnfit}
-use Rattle.rosenbrock.specs.Calls.{givenBy, scratchBy, progressAfter, settle, opening, opened, attemptBy, attemptOf, towards, attemptToOf, supplyOf, refusal}
+use Rattle.rosenbrock.specs.Tests.{attemptTests, stepTests, supplyTests, fileTests, openTest, requestTest, pivotsUnfit}
+use Rattle.rosenbrock.specs.Calls.{givenBy, scratchBy, progressAfter, settle, opening, opened, attemptBy, attemptOf, towards, attemptToOf, supplyOf}
 use Rattle.rosenbrock.specs.Stepper.{attempt, attempt-to, supply, called, tallied, needed, trimmed, untrimmed, Next, result, stepped}
 use Rattle.rosenbrock.specs.Contracts.{systemOf, answerBy, nextOf, nextBy, lentTests, answerTests, settingBy, marksBy, answerAfter, outcomeAfter}
 use Rattle.rosenbrock.proofs.Requests.{read-back, in-range}
-use Rattle.rosenbrock.proofs.Fitting.{Shape, shape-of, fits-passed}
+use Rattle.rosenbrock.proofs.Fitting.{Shape, fits-passed}
 use Rattle.rosenbrock.proofs.Passed.{supply-passed, supply-values}
 use Rattle.rosenbrock.proofs.Lengths.{opened-keeps, resumed-keeps}
 use Rattle.rosenbrock.proofs.Memory.{trim-untrim}

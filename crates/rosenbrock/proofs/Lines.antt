@@ -3,25 +3,25 @@
 use Prim.Native.Nat.{ℕ, suc}
 use native.Mathlib.Omega.{arith}
 use mathlib.Core.Path.{_≡_, refl, sym, ap, _∙_}
-use mathlib.Core.Bool.{Bool, true, false, not, _&&_}
-use mathlib.Core.List.{List, [], _∷_, _++_}
+use mathlib.Core.Bool.{Bool, true, false, not}
+use mathlib.Core.List.{List, [], _++_}
 use lib.Ieee.{Float, eq}
 use lib.ListN.{length}
 use Rattle.float.specs.Operators.{_⊕_, _⊖_, 𝟎}
 use Rattle.vector.specs.Lists.{allFinite}
-use Rattle.stepping.specs.Refusals.{Test, _when_, firstOf, unlessRefused}
+use Rattle.stepping.specs.Refusals.{Test, firstOf}
 use Rattle.stepping.specs.declared.Endpoint.the-variants.{Refused}
 use Rattle.stepping.specs.Time.{endpointStep}
 use Rattle.stepping.proofs.Refusals.{here, later, none, two-passed, is-refused}
 use Rattle.time_difference.specs.declared.TimeDifferencePolicy.{TimeDifferencePolicy}
 use Rattle.tableau.specs.Tableau.{stagesOf}
 use Rattle.tableau.specs.File.{tableauOf, accepts}
-use Rattle.attempts.specs.Marks.{withCaches, nothingCounted, oneAccepted, oneRejected}
+use Rattle.attempts.specs.Marks.{withCaches, nothingCounted, oneRejected}
 use Rattle.rosenbrock.specs.declared.Fixed.{Fixed}
 use Rattle.rosenbrock.specs.declared.Progress.{Progress}
 use Rattle.rosenbrock.specs.Requests.{isPending, isOpen}
-use Rattle.rosenbrock.specs.Answers.{Lent, refused, done, candidateOf}
-use Rattle.rosenbrock.specs.Tests.{shapeFits, fitTests, fileTests, makingTests, attemptTests, stepTests, supplyTests, failTests, decisionTests, injectTests, resetTests}
+use Rattle.rosenbrock.specs.Answers.{Lent, refused, done}
+use Rattle.rosenbrock.specs.Tests.{shapeFits, fitTests, fileTests, attemptTests, stepTests, supplyTests, failTests, decisionTests, injectTests, resetTests}
 use Rattle.rosenbrock.specs.Calls.{Out, refusal, guarded, progressAfter, opening, attemptBy, attemptOf, towards, attemptToOf, supplyOf, failed, failOf, memoAccepted, accepted, acceptOf, rejected, rejectOf, injected, injectOf, fresh, cleared, restarted, resetOf}
 use Rattle.rosenbrock.specs.Stepper.{trimmed, needed, fixedBy, not-made, make, madeOf}
 use Rattle.rosenbrock.proofs.Guards.{guarded-passed, done-passed}

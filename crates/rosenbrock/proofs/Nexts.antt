@@ -23,7 +23,7 @@ use Rattle.rosenbrock.specs.declared.RosenbrockStepper.{RosenbrockSteppe
 use Rattle.rosenbrock.specs.declared.Answer.{Answer}
 use Rattle.rosenbrock.specs.declared.Answer.the-variants.{Done, Refused}
 use Rattle.rosenbrock.specs.declared.Outcome.{Outcome}
-use Rattle.rosenbrock.specs.Answers.{Lent, lending, refused, done, candidateOf}
+use Rattle.rosenbrock.specs.Answers.{Lent, lending, refused, candidateOf}
 use Rattle.rosenbrock.specs.Answers as Answers
 use Rattle.rosenbrock.specs.Tests.{decisionTests, failTests, injectTests, resetTests, openTest, pendingTest, candidateTest, requestTest, lengthTest, finiteTest}
 use Rattle.rosenbrock.specs.Calls.{Out, refusal, guarded, progressAfter, memoAccepted, accepted, acceptOf, rejected, rejectOf, failed, failOf, injected, injectOf, fresh, cleared, restarted, resetOf}

@@ -1,9 +1,9 @@
 -- The test of n, s and the lengths that are lent, branch by branch; the work is cut to the needed length. Assumes nothing.
 use Prim.Native.Nat.{ℕ, min, _≤_, _<_}
 use native.Mathlib.Omega.{arith}
-use mathlib.Core.Path.{_≡_, refl, sym, _∙_}
-use mathlib.Core.Bool.{Bool, true, false, _&&_}
-use lib.Dec.{leb, eqb}
+use mathlib.Core.Path.{_≡_, sym, _∙_}
+use mathlib.Core.Bool.{Bool, false, _&&_}
+use lib.Dec.{eqb}
 use borrow.Author.Tests.{le-leb, lt-leb, eq-eqb, ne-eqb}
 use Rattle.float.proofs.Cases.{and-yes, and-no}
 use Rattle.stages.specs.Layout.{neededWork}

@@ -16,7 +16,6 @@ use Rattle.stepping.specs.declared.Checked.the-variants.{At, Refused}
 use Rattle.stepping.specs.Time.{timeTests, checkedTime}
 use Rattle.stepping.proofs.Refusals.{later, passed, held, first-refused, two-passed}
 use Rattle.stages.specs.Layout.{neededWork}
-use Rattle.attempts.specs.declared.Ask.{Ask}
 use Rattle.attempts.specs.declared.Ask.the-variants.{Stage}
 use Rattle.attempts.specs.Attempt.{wanted}
 use Rattle.rosenbrock.specs.declared.Fixed.{Fixed}

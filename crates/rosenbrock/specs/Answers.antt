@@ -1,6 +1,6 @@
 -- What a call answers, and what of the record and the lent memory a request and a step view show. Definitions only.
 use Prim.Native.Nat.{ℕ, _*_}
-use mathlib.Core.Bool.{Bool, cond}
+use mathlib.Core.Bool.{cond}
 use mathlib.Core.List.{List, []}
 use mathlib.Core.Option.{Option, none, some}
 use lib.Ieee.{Float, eq}

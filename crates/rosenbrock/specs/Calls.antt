@@ -2,7 +2,7 @@
 -- counted. Definitions only.
 use Prim.Native.Nat.{ℕ}
 use mathlib.Core.Bool.{Bool, true, false, _&&_}
-use mathlib.Core.List.{List, []}
+use mathlib.Core.List.{List}
 use lib.ListN.{length, replicate}
 use lib.Ieee.{Float, eq}
 use Rattle.float.specs.Operators.{_⊕_, _⊖_, 𝟎}
@@ -14,12 +14,8 @@ use Rattle.stepping.specs.declared.Endpoint.the-variants.{Step, Refused}
 use Rattle.stepping.specs.Time.{endpointStep}
 use Rattle.tableau.specs.File.{tableauOf}
 use Rattle.stages.specs.Layout.{currentAt}
-use Rattle.attempts.specs.declared.Setting.{Setting}
 use Rattle.attempts.specs.declared.Memo.{Memo}
 use Rattle.attempts.specs.declared.Counted.{Counted}
-use Rattle.attempts.specs.declared.Marks.{Marks}
-use Rattle.attempts.specs.declared.Ending.{Ending}
-use Rattle.attempts.specs.declared.Stop.{Stop}
 use Rattle.attempts.specs.Marks.{blank, withCaches, nothingCounted, oneAttempt, oneAccepted, oneRejected}
 use Rattle.attempts.specs.Attempt.{Given, given, Scratch, scratch, Stopped, start, resume}
 use Rattle.rosenbrock.specs.declared.Fixed.{Fixed}

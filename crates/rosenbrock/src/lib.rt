@@ -1,16 +1,14 @@
 // The stepper's record and its calls.
 ghost use mathlib.Core.Path.{_≡_};
-ghost use mathlib.Core.Bool.{true, not, cond};
+ghost use mathlib.Core.Bool.{true, cond};
 ghost use mathlib.Core.List.{[], _∷_, _++_};
 ghost use Prim.Native.Nat.{min, _*_, _≤_};
-ghost use lib.Dec.{eqb, ltb};
-ghost use lib.ListN.{getD, length};
-ghost use Rattle.vector.specs.Lists.{every};
+ghost use lib.Dec.{eqb};
+ghost use lib.ListN.{length};
 ghost use Rattle.stepping.specs.Refusals.{firstOf};
 ghost use Rattle.stages.specs.Layout.{neededWork};
-ghost use Rattle.attempts.specs.Attempt.{wanted};
 ghost use Rattle.rosenbrock.specs.Requests.{askOf, askNumber, askStage, requestAfter, stageAfter, requestFits};
-ghost use Rattle.rosenbrock.specs.Tests.{shapeFits, sizeTests, fileTests, pivotsUnfit, openTest, pendingTest, candidateTest, requestTest, lengthTest, finiteTest, stepTests};
+ghost use Rattle.rosenbrock.specs.Tests.{shapeFits, sizeTests, fileTests, openTest, pendingTest, candidateTest, requestTest, lengthTest, finiteTest, stepTests};
 ghost use Rattle.rosenbrock.specs.Answers.{lending};
 ghost use Rattle.rosenbrock.specs.Calls.{memoAccepted, fresh, opening, attemptBy};
 ghost use Rattle.rosenbrock.specs.Stepper.{oneMore, tallied, noStatistics, needed, trimmed, by-value, attempt, attempt-to, supply, fail, accept, reject, inject-derivative, reset, stepped};

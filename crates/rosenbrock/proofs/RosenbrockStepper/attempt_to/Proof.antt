@@ -2,7 +2,7 @@
 use borrow.Author.Needs.{needs}
 use denote.Ref.{now}
 use Rattle.rosenbrock.proofs.Fitting.{shape-fits}
-use Rattle.rosenbrock.proofs.Attempts.{attempt-refused, attempt-shape, attempt-to-refused, towards-step, towards-refused}
+use Rattle.rosenbrock.proofs.Attempts.{attempt-shape, attempt-to-refused, towards-step, towards-refused}
 use Rattle.rosenbrock.proofs.RosenbrockStepper.attempt_to.Statement.{statement}
 use Rattle.rosenbrock.proofs.RosenbrockStepper.attempt_to.Tie as tie
 
