@@ -339,7 +339,7 @@ pub fn solve_factorized(factors: &[f64], pivots: &[usize], rhs: &mut [f64], n: u
 }
 
 // Whether each pivot is a row.
-fn all_below(pivots: &[usize], n: usize) -> bool
+pub fn all_below(pivots: &[usize], n: usize) -> bool
     ensures { λ r. ⌜ r ≡ every (length (now (pivots .entry))) (λ k. ltb (getD (now (pivots .entry)) k 0) n) ⌝ }
 {
     let mut k = 0;

@@ -12,3 +12,5 @@ mod Shapes
 mod Tested
 mod Nexts
 mod Makings
+mod Stops
+mod Attempts

@@ -12,7 +12,7 @@ use Rattle.vector.specs.Lists.{allFinite}
 use Rattle.stepping.specs.Refusals.{Test, firstOf}
 use Rattle.stepping.specs.declared.Endpoint.the-variants.{Refused}
 use Rattle.stepping.specs.Time.{endpointStep}
-use Rattle.stepping.proofs.Refusals.{here, later, none, passed, two-passed, is-refused}
+use Rattle.stepping.proofs.Refusals.{here, later, none, two-passed, is-refused}
 use Rattle.time_difference.specs.declared.TimeDifferencePolicy.{TimeDifferencePolicy}
 use Rattle.tableau.specs.Tableau.{stagesOf}
 use Rattle.tableau.specs.File.{tableauOf, accepts}
@@ -25,6 +25,7 @@ use Rattle.rosenbrock.specs.Tests.{shapeFits, fitTests, fileTests, attem
 use Rattle.rosenbrock.specs.Calls.{Out, refusal, guarded, progressAfter, opening, attemptBy, attemptOf, towards, attemptToOf, supplyOf, failed, failOf, memoAccepted, accepted, acceptOf, rejected, rejectOf, injected, injectOf, fresh, cleared, restarted, resetOf}
 use Rattle.rosenbrock.specs.Stepper.{trimmed, needed, fixedBy, not-made, make, madeOf}
 use Rattle.rosenbrock.proofs.Guards.{guarded-passed, done-passed}
+use Rattle.rosenbrock.proofs.Tested.{after-file}
 
 -- ---- a guard that refuses, and tests that follow others
 
@@ -70,27 +71,20 @@ module _ (fx : Fixed) (x : Progress) (m : Lent) (fits : firstOf (fitTests fx x m
   -- ---- attempts and supply are lent the file
 
   module _ (file : List ℕ) (file-fits : firstOf (fileTests (fx .s) file) ≡ 0) where
-    after-file : (rest : List Test) → firstOf (fileTests (fx .s) file ++ rest) ≡ firstOf rest
-    after-file rest =
-        let t₁ = passed 11 _ _ file-fits in
-        let t₂ = passed 2 _ _ (t₁ .1) in
-        let t₃ = passed 0 _ _ (t₂ .1) in
-        later 12 _ (t₁ .0) (later 3 _ (t₂ .0) (later 1 rest (t₃ .0) refl))
-
     pub attempt-open : (step : Float) (jacobian partial : Bool) → isOpen (x .request) ≡ true → attemptOf fx file step jacobian partial x m ≡ refusal x m 18
     unfolding attemptOf
     attempt-open step jacobian partial is-open =
-        refused-by (attemptTests fx file x m) x m _ 17 (after-fits _ ∙ after-file _ ∙ here 18 [] is-open)
+        refused-by (attemptTests fx file x m) x m _ 17 (after-fits _ ∙ after-file (fx .s) file _ file-fits ∙ here 18 [] is-open)
 
     -- whatever is supplied, its length too
     pub supply-idle : (values : List Float) → isOpen (x .request) ≡ false → supplyOf fx file values x m ≡ refusal x m 17
     unfolding supplyOf
     supply-idle values not-open =
-        refused-by (supplyTests fx file values x m) x m _ 16 (after-fits _ ∙ after-file _ ∙ here 17 _ (ap not not-open))
+        refused-by (supplyTests fx file values x m) x m _ 16 (after-fits _ ∙ after-file (fx .s) file _ file-fits ∙ here 17 _ (ap not not-open))
 
     module _ (not-open : isOpen (x .request) ≡ false) where
       attempt-passed : firstOf (attemptTests fx file x m) ≡ 0
-      attempt-passed = after-fits _ ∙ after-file _ ∙ later 18 [] not-open none
+      attempt-passed = after-fits _ ∙ after-file (fx .s) file _ file-fits ∙ later 18 [] not-open none
 
       -- attempt tests pending, then the time; what it refuses changes nothing and is not counted
       pub attempt-pending : (step : Float) (jacobian partial : Bool) → isPending (x .request) ≡ true → attemptOf fx file step jacobian partial x m ≡ refusal x m 14

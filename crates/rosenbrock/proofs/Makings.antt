@@ -9,7 +9,6 @@ use lib.Ieee.{Float}
 use borrow.Author.Tests.{eq-eqb, ne-eqb}
 use Rattle.float.specs.Operators.{𝟎}
 use Rattle.float.proofs.Cases.{told-not}
-use Rattle.vector.specs.Lists.{allFinite}
 use Rattle.stepping.specs.Refusals.{unsupportedTableau, dimension, tableauFile, Test, _when_, firstOf}
 use Rattle.stepping.proofs.Refusals.{here, later, none, held, stopped, went-on, first-refused, two-passed, is-refused, is-answered}
 use Rattle.time_difference.specs.declared.TimeDifferencePolicy.{TimeDifferencePolicy}
@@ -18,13 +17,12 @@ use Rattle.tableau.specs.File.{tableauOf, accepts, check}
 use Rattle.stages.specs.Layout.{neededWork}
 use Rattle.rosenbrock.specs.declared.Progress.{Progress}
 use Rattle.rosenbrock.specs.declared.StepStatistics.{StepStatistics}
-use Rattle.rosenbrock.specs.declared.RosenbrockStepper.{RosenbrockStepper}
 use Rattle.rosenbrock.specs.declared.Making.the-variants.{Made, Refused}
 use Rattle.rosenbrock.specs.Answers.{Lent, lending}
 use Rattle.rosenbrock.specs.Tests.{shapeFits, finiteTest, makingTests}
 use Rattle.rosenbrock.specs.Calls.{fresh, cleared}
 use Rattle.rosenbrock.specs.Stepper as Stepper
-use Rattle.rosenbrock.specs.Stepper.{noStatistics, needed, trimmed, untrimmed, not-made, made, fixedBy, madeOf, make}
+use Rattle.rosenbrock.specs.Stepper.{noStatistics, needed, trimmed, untrimmed, not-made, fixedBy, madeOf, make}
 use Rattle.rosenbrock.specs.Contracts.{newTests, afterMaking, memoryAfter, makingOf, madeBy}
 use Rattle.rosenbrock.proofs.Fitting.{Shape, shape-of}
 use Rattle.rosenbrock.proofs.Files.{checked}

@@ -23,12 +23,12 @@ use Rattle.rosenbrock.specs.declared.RosenbrockStepper.{RosenbrockSteppe
 use Rattle.rosenbrock.specs.declared.Answer.{Answer}
 use Rattle.rosenbrock.specs.declared.Answer.the-variants.{Done, Refused}
 use Rattle.rosenbrock.specs.declared.Outcome.{Outcome}
-use Rattle.rosenbrock.specs.Answers.{Lent, lending, refused, done, candidateOf}
+use Rattle.rosenbrock.specs.Answers.{Lent, lending, refused, candidateOf}
 use Rattle.rosenbrock.specs.Answers as Answers
 use Rattle.rosenbrock.specs.Tests.{decisionTests, failTests, injectTests, resetTests, openTest, pendingTest, candidateTest, requestTest, lengthTest, finiteTest}
 use Rattle.rosenbrock.specs.Calls.{Out, refusal, guarded, progressAfter, memoAccepted, accepted, acceptOf, rejected, rejectOf, failed, failOf, injected, injectOf, fresh, cleared, restarted, resetOf}
-use Rattle.rosenbrock.specs.Stepper.{Call, by-value, accept, reject, fail, inject-derivative, reset, called, oneMore, tallied, needed, trimmed, untrimmed, Next, result, stepped}
-use Rattle.rosenbrock.specs.Contracts.{systemOf, answerBy, nextOf, lentTests}
+use Rattle.rosenbrock.specs.Stepper.{Call, by-value, accept, reject, fail, inject-derivative, reset, called, oneMore, tallied, needed, trimmed, untrimmed, result, stepped}
+use Rattle.rosenbrock.specs.Contracts.{systemOf, answerBy, nextOf, nextBy, lentTests}
 use Rattle.rosenbrock.proofs.Guards.{guarded-passed}
 use Rattle.rosenbrock.proofs.Readers.{untrimmed-same}
 use Rattle.rosenbrock.proofs.Memory.{puts-front}
@@ -36,20 +36,8 @@ use Rattle.rosenbrock.proofs.Tested.{cut, fitted, lent-work, vectors-in
 use Rattle.rosenbrock.proofs.Fitting.{Shape}
 use Rattle.rosenbrock.proofs.Passed.{inject-size, reset-passed}
 
--- a record and its memory as a call leaves them
-nextBy : RosenbrockStepper → Lent → Out → Next
-nextBy y m o =
-    record {
-      system =
-          record {
-            stepper = record { fixed = y .fixed; progress = o .progress; statistics = tallied (o .counted) (y .statistics) };
-            lent = untrimmed (needed (y .fixed)) m (o .lent);
-          };
-      answer = o .answer;
-    }
-
 -- what the code hands back: the record as it was fixed, with what was moved
-abbrev left : RosenbrockStepper → Progress → StepStatistics → Answer → Outcome
+abbrev pub left : RosenbrockStepper → Progress → StepStatistics → Answer → Outcome
 left y x t a = record { stepper = record { fixed = y .fixed; progress = x; statistics = t }; answer = a }
 
 -- the record without its request, with another memo; one counter set
@@ -97,7 +85,7 @@ module _ (y : RosenbrockStepper) (state work : List Float) (pivots : List ℕ) w
   abbrev cut-m : Lent
   cut-m = trimmed (needed (y .fixed)) m
 
-  refusal-next : (k : ℕ) → nextOf (left y (y .progress) (y .statistics) (Refused k)) state work pivots ≡ nextBy y m (refusal (y .progress) cut-m k)
+  pub refusal-next : (k : ℕ) → nextOf (left y (y .progress) (y .statistics) (Refused k)) state work pivots ≡ nextBy y m (refusal (y .progress) cut-m k)
   unfolding nextOf answerBy nextBy refusal tallied oneMore
   refusal-next k =
       λ i. record {
@@ -105,16 +93,23 @@ module _ (y : RosenbrockStepper) (state work : List Float) (pivots : List ℕ) w
         answer = refused k;
       }
 
-  module _ (c : Call) (tests : List Test) (o : Out) (same : result c (systemOf y state work pivots) ≡ guarded tests (y .progress) cut-m o) where
-    -- a call whose tests refuse it leaves everything
-    refused-next : {k : ℕ} → k ≡ firstOf tests → (k ≡ 0 → ⊥) → nextOf (left y (y .progress) (y .statistics) (Refused k)) state work pivots ≡ stepped c (systemOf y state work pivots)
-    unfolding stepped nextBy guarded
-    refused-next {k} e h = refusal-next k ∙ ap (nextBy y m) (is-refused (refusal (y .progress) cut-m) o (sym e) h ∙ sym same)
+  -- tests that refuse leave everything, and tests that are passed change nothing
+  pub guard-refuses : (tests : List Test) (o : Out) {k : ℕ} → k ≡ firstOf tests → (k ≡ 0 → ⊥)
+      → nextOf (left y (y .progress) (y .statistics) (Refused k)) state work pivots ≡ nextBy y m (guarded tests (y .progress) cut-m o)
+  unfolding guarded
+  guard-refuses tests o {k} e h = refusal-next k ∙ ap (nextBy y m) (is-refused (refusal (y .progress) cut-m) o (sym e) h)
 
-    -- and one that passes them leaves what is defined
-    passed-next : {k : ℕ} → k ≡ firstOf tests → k ≡ 0 → nextBy y m o ≡ stepped c (systemOf y state work pivots)
+  pub guard-passes : (tests : List Test) (o : Out) {k : ℕ} → k ≡ firstOf tests → k ≡ 0 → nextBy y m o ≡ nextBy y m (guarded tests (y .progress) cut-m o)
+  guard-passes tests o e h = ap (nextBy y m) (sym (guarded-passed tests (y .progress) cut-m o (sym e ∙ h)))
+
+  module _ (c : Call) (tests : List Test) (o : Out) (same : result c (systemOf y state work pivots) ≡ guarded tests (y .progress) cut-m o) where
+    pub refused-next : {k : ℕ} → k ≡ firstOf tests → (k ≡ 0 → ⊥) → nextOf (left y (y .progress) (y .statistics) (Refused k)) state work pivots ≡ stepped c (systemOf y state work pivots)
     unfolding stepped nextBy
-    passed-next e h = ap (nextBy y m) (sym (same ∙ guarded-passed tests (y .progress) cut-m o (sym e ∙ h)))
+    refused-next e h = guard-refuses tests o e h ∙ ap (nextBy y m) (sym same)
+
+    pub passed-next : {k : ℕ} → k ≡ firstOf tests → k ≡ 0 → nextBy y m o ≡ stepped c (systemOf y state work pivots)
+    unfolding stepped nextBy
+    passed-next e h = guard-passes tests o e h ∙ ap (nextBy y m) (sym same)
 
   -- what the code leaves, where the memory and the answer are the defined ones
   left-next : (a : Answer) (x : Progress) (c : Counted) (l : Lent) {b : Answers.Answer} {s w : List Float} {p : List ℕ}

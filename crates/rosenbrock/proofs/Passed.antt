@@ -12,11 +12,12 @@ use Rattle.stepping.specs.Refusals.{Test, firstOf}
 use Rattle.stepping.proofs.Refusals.{passed, held}
 use Rattle.tableau.specs.Tableau.{stagesOf}
 use Rattle.tableau.specs.File.{tableauOf, accepts}
+use Rattle.attempts.specs.Attempt.{wanted}
 use Rattle.rosenbrock.specs.declared.Fixed.{Fixed}
 use Rattle.rosenbrock.specs.declared.Progress.{Progress}
-use Rattle.rosenbrock.specs.Requests.{isPending, isOpen}
+use Rattle.rosenbrock.specs.Requests.{isPending, isOpen, askOf}
 use Rattle.rosenbrock.specs.Answers.{Lent}
-use Rattle.rosenbrock.specs.Tests.{shapeFits, fileTests, makingTests, supplyTests, decisionTests, injectTests, resetTests}
+use Rattle.rosenbrock.specs.Tests.{shapeFits, pivotsUnfit, fileTests, makingTests, supplyTests, decisionTests, injectTests, resetTests}
 use Rattle.rosenbrock.proofs.Fitting.{Shape, LentShape, shape-of, fits-passed}
 
 -- ---- the making
@@ -45,9 +46,17 @@ module _ (fx : Fixed) (x : Progress) (m : Lent) where
       let t₂ = passed 2 (eqb (tableauOf file .counts .kind) 1) _ (t₁ .1) in
       held 0 (eqb (stagesOf (tableauOf file)) (fx .s)) rest (t₂ .1) .1
 
-  -- supply: an attempt is open
+  -- supply: an attempt is open, the length is the wanted one, and the pivots are rows where a stage would be solved
   pub supply-passed : (file : List ℕ) (values : List Float) → firstOf (supplyTests fx file values x m) ≡ 0 → isOpen (x .request) ≡ true
   supply-passed file values e = held 16 (isOpen (x .request)) _ (file-passed file _ (fits-passed fx x m _ e .1)) .0
+
+  pub supply-values : (file : List ℕ) (values : List Float) → firstOf (supplyTests fx file values x m) ≡ 0
+      → let a = askOf (x .request) (x .stage) in (length values ≡ wanted (fx .n) a) × (pivotsUnfit (fx .n) (m .pivots) a ≡ false)
+  supply-values file values e =
+      let a = askOf (x .request) (x .stage) in
+      let t₁ = held 16 (isOpen (x .request)) _ (file-passed file _ (fits-passed fx x m _ e .1)) in
+      let t₂ = held 0 (eqb (length values) (wanted (fx .n) a)) _ (t₁ .1) in
+      (eqb-true (length values) (wanted (fx .n) a) (t₂ .0), passed 12 (pivotsUnfit (fx .n) (m .pivots) a) [] (t₂ .1) .0)
 
   -- accept and reject: a candidate is pending
   pub decision-passed : firstOf (decisionTests fx x m) ≡ 0 → isPending (x .request) ≡ true

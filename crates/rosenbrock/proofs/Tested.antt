@@ -1,20 +1,28 @@
 -- The tests of a call, the first ones from the lengths as they are lent: one after the other, and what they tell. Assumes nothing.
-use Prim.Native.Nat.{ℕ, min, _≤_, _<_, _*_}
+use Prim.Native.Nat.{ℕ, zero, suc, min, _≤_, _<_, _*_}
 use native.Mathlib.Omega.{arith}
 use mathlib.Core.Path.{_≡_, refl, sym, ap, _∙_}
 use mathlib.Core.Bool.{Bool, true, false, not, cond}
 use mathlib.Core.List.{List, [], _∷_, _++_}
 use lib.Ieee.{Float}
-use lib.ListN.{length, length-take}
-use borrow.Author.Tests.{le-leb, lt-leb, eq-eqb, ne-eqb}
-use Rattle.stepping.specs.Refusals.{Test, _when_, firstOf}
-use Rattle.stepping.proofs.Refusals.{held, first-refused, two-passed}
+use lib.Dec.{eqb, ltb}
+use lib.ListN.{length, getD, length-take}
+use borrow.Author.Tests.{le-leb, lt-leb, eq-eqb, ne-eqb, eqb-true}
+use Rattle.float.proofs.Cases.{by, no}
+use Rattle.vector.specs.Lists.{every}
+use Rattle.stepping.specs.Refusals.{Test, _when_, firstOf, unlessRefused}
+use Rattle.stepping.specs.declared.Checked.{Checked}
+use Rattle.stepping.specs.declared.Checked.the-variants.{At, Refused}
+use Rattle.stepping.specs.Time.{timeTests, checkedTime}
+use Rattle.stepping.proofs.Refusals.{later, passed, held, first-refused, two-passed}
 use Rattle.stages.specs.Layout.{neededWork}
+use Rattle.attempts.specs.declared.Ask.the-variants.{Stage}
+use Rattle.attempts.specs.Attempt.{wanted}
 use Rattle.rosenbrock.specs.declared.Fixed.{Fixed}
 use Rattle.rosenbrock.specs.declared.Progress.{Progress}
-use Rattle.rosenbrock.specs.Requests.{isPending, isOpen}
+use Rattle.rosenbrock.specs.Requests.{isPending, isOpen, askOf}
 use Rattle.rosenbrock.specs.Answers.{lending}
-use Rattle.rosenbrock.specs.Tests.{fitTests, sizeTests}
+use Rattle.rosenbrock.specs.Tests.{fitTests, sizeTests, fileTests, pivotsUnfit}
 use Rattle.rosenbrock.specs.Stepper.{needed, trimmed}
 use Rattle.rosenbrock.specs.Contracts.{lentTests}
 use Rattle.rosenbrock.proofs.Fitting.{Shape, shape-of}
@@ -71,3 +79,81 @@ pub last-test : (k : ℕ) (b : Bool) {r : ℕ} → r ≡ cond b 0 k → firstOf 
 unfolding firstOf
 last-test k true e = sym e
 last-test k false e = sym e
+
+-- ---- the file's tests, then others
+
+pub file-unfit : (s : ℕ) (file : List ℕ) (rest : List Test) {k : ℕ} → k ≡ firstOf (fileTests s file) → (k ≡ 0 → ⊥) → firstOf (fileTests s file ++ rest) ≡ k
+file-unfit s file rest e h = first-refused (fileTests s file) rest (sym e) h
+
+pub after-file : (s : ℕ) (file : List ℕ) (rest : List Test) → firstOf (fileTests s file) ≡ 0 → firstOf (fileTests s file ++ rest) ≡ firstOf rest
+after-file s file rest h =
+    let t₁ = passed 11 _ _ h in
+    let t₂ = passed 2 _ _ (t₁ .1) in
+    let t₃ = passed 0 _ _ (t₂ .1) in
+    later 12 _ (t₁ .0) (later 3 _ (t₂ .0) (later 1 rest (t₃ .0) refl))
+
+-- ---- the time that a step reaches
+
+reached-or : (K : ℕ) (end : Float) (r : Checked) → r ≡ unlessRefused Refused K (At end) → ((t : Float) → r ≡ At t → K ≡ 0) × ((k : ℕ) → r ≡ Refused k → K ≡ k)
+unfolding unlessRefused
+reached-or K end r e =
+    by (eqb K 0)
+    (λ (b : eqb K 0 ≡ true). let z = eqb-true K 0 b in let a : r ≡ At end = simp b at e in ((λ t q. z), (λ k q. cc)))
+    (λ (b : eqb K 0 ≡ false). let a : r ≡ Refused K = simp b at e in ((λ t q. cc), (λ k q. cc)))
+
+module _ (time step : Float) {r : Checked} (e : r ≡ checkedTime time step) where
+  pub time-reached : {t : Float} → r ≡ At t → firstOf (timeTests time step) ≡ 0
+  unfolding checkedTime
+  time-reached q = reached-or (firstOf (timeTests time step)) _ r e .0 _ q
+
+  pub time-refused : {k : ℕ} → r ≡ Refused k → firstOf (timeTests time step) ≡ k
+  unfolding checkedTime
+  time-refused q = reached-or (firstOf (timeTests time step)) _ r e .1 _ q
+
+-- ---- what answers a request, by its number
+
+-- from 8 on a stage is asked
+asks-stage : (request stage : ℕ) → 8 ≤ request → Stage stage ≡ askOf request stage
+unfolding askOf
+asks-stage request stage h =
+    no _ (ne-eqb request 2 (λ e. omega arith))
+    (no _ (ne-eqb request 3 (λ e. omega arith))
+    (no _ (ne-eqb request 4 (λ e. omega arith))
+    (no _ (ne-eqb request 5 (λ e. omega arith))
+    (no _ (ne-eqb request 6 (λ e. omega arith)) (no _ (ne-eqb request 7 (λ e. omega arith)) refl)))))
+
+pub wanted-at : (n stage request : ℕ) → wanted n (askOf request stage) ≡ cond (eqb request 3) (n * n) n
+unfolding askOf wanted
+wanted-at n stage zero = refl
+wanted-at n stage (suc zero) = refl
+wanted-at n stage (suc (suc zero)) = refl
+wanted-at n stage (suc (suc (suc zero))) = refl
+wanted-at n stage (suc (suc (suc (suc zero)))) = refl
+wanted-at n stage (suc (suc (suc (suc (suc zero))))) = refl
+wanted-at n stage (suc (suc (suc (suc (suc (suc zero)))))) = refl
+wanted-at n stage (suc (suc (suc (suc (suc (suc (suc zero))))))) = refl
+wanted-at n stage (suc (suc (suc (suc (suc (suc (suc (suc k)))))))) =
+    let r = suc (suc (suc (suc (suc (suc (suc (suc k))))))) in
+    let l : 8 ≤ r = omega arith in
+    ap (wanted n) (sym (asks-stage r stage l)) ∙ no _ (ne-eqb r 3 (λ e. omega arith)) refl
+
+-- before a stage the pivots do not count
+pub pivots-unread : (n : ℕ) (pivots : List ℕ) (request stage : ℕ) → 2 ≤ request → request < 8 → pivotsUnfit n pivots (askOf request stage) ≡ false
+unfolding askOf pivotsUnfit
+pivots-unread n pivots zero stage h l = absurd (omega arith)
+pivots-unread n pivots (suc zero) stage h l = absurd (omega arith)
+pivots-unread n pivots (suc (suc zero)) stage h l = refl
+pivots-unread n pivots (suc (suc (suc zero))) stage h l = refl
+pivots-unread n pivots (suc (suc (suc (suc zero)))) stage h l = refl
+pivots-unread n pivots (suc (suc (suc (suc (suc zero))))) stage h l = refl
+pivots-unread n pivots (suc (suc (suc (suc (suc (suc zero)))))) stage h l = refl
+pivots-unread n pivots (suc (suc (suc (suc (suc (suc (suc zero))))))) stage h l = refl
+pivots-unread n pivots (suc (suc (suc (suc (suc (suc (suc (suc k)))))))) stage h l = absurd (omega arith)
+
+pub pivots-read : (n : ℕ) (pivots : List ℕ) (request stage : ℕ) → 8 ≤ request → length pivots ≡ n → {r v : Bool} → r ≡ every (length pivots) (λ k. ltb (getD pivots k 0) n) → not r ≡ v
+    → pivotsUnfit n pivots (askOf request stage) ≡ v
+unfolding pivotsUnfit
+pivots-read n pivots request stage h l e q =
+    ap (pivotsUnfit n pivots) (sym (asks-stage request stage h))
+    ∙ ap (λ (j : ℕ). not (every j (λ k. ltb (getD pivots k 0) n))) (sym l)
+    ∙ sym (ap not e) ∙ q

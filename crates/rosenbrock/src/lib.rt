@@ -1,24 +1,27 @@
 // The stepper's record and its calls.
 ghost use mathlib.Core.Path.{_≡_};
-ghost use mathlib.Core.Bool.{not};
+ghost use mathlib.Core.Bool.{true, cond};
 ghost use mathlib.Core.List.{[], _∷_, _++_};
-ghost use Prim.Native.Nat.{min, _≤_};
-ghost use lib.Dec.{ltb};
-ghost use lib.ListN.{getD, length};
-ghost use Rattle.vector.specs.Lists.{every};
+ghost use Prim.Native.Nat.{min, _*_, _≤_};
+ghost use lib.Dec.{eqb};
+ghost use lib.ListN.{length};
 ghost use Rattle.stepping.specs.Refusals.{firstOf};
 ghost use Rattle.stages.specs.Layout.{neededWork};
-ghost use Rattle.attempts.specs.Attempt.{wanted};
 ghost use Rattle.rosenbrock.specs.Requests.{askOf, askNumber, askStage, requestAfter, stageAfter, requestFits};
-ghost use Rattle.rosenbrock.specs.Tests.{shapeFits, sizeTests, fileTests, pivotsUnfit, openTest, pendingTest, candidateTest, requestTest, lengthTest, finiteTest};
+ghost use Rattle.rosenbrock.specs.Tests.{shapeFits, sizeTests, fileTests, openTest, pendingTest, candidateTest, requestTest, lengthTest, finiteTest, stepTests};
 ghost use Rattle.rosenbrock.specs.Answers.{lending};
-ghost use Rattle.rosenbrock.specs.Calls.{memoAccepted, fresh};
-ghost use Rattle.rosenbrock.specs.Stepper.{oneMore, tallied, noStatistics, by-value, accept, reject, fail, inject-derivative, reset, stepped};
-ghost use Rattle.rosenbrock.specs.Contracts.{lentTests, newTests, systemOf, nextOf, madeBy, makingOf};
+ghost use Rattle.rosenbrock.specs.Calls.{memoAccepted, fresh, opening, attemptBy};
+ghost use Rattle.rosenbrock.specs.Stepper.{oneMore, tallied, noStatistics, needed, trimmed, by-value, attempt, attempt-to, supply, fail, accept, reject, inject-derivative, reset, stepped};
+ghost use Rattle.rosenbrock.specs.Contracts.{lentTests, newTests, answerTests, settingBy, marksBy, answerAfter, outcomeAfter, systemOf, nextOf, nextBy, madeBy, makingOf};
 use attempts::Ask;
 use attempts::Counted;
 use attempts::Ending;
+use attempts::Marks;
 use attempts::Memo;
+use attempts::Setting;
+use attempts::Stop;
+use stepping::Checked;
+use stepping::Endpoint;
 use time_difference::TimeDifferencePolicy;
 
 // What the making fixed: components, stages, and how the time partial is probed.
@@ -224,6 +227,36 @@ fn ask_stage(ask: Ask) -> usize
     }
 }
 
+fn request_after(ending: Ending) -> u32
+    ensures { λ r. ⌜ r ≡ requestAfter ending ⌝ }
+{
+    match ending {
+        Ending::Asks(ask) => ask_number(ask),
+        Ending::Ends(number) => 0,
+        Ending::Shows => 1,
+    }
+}
+
+fn stage_after(ending: Ending) -> usize
+    ensures { λ r. ⌜ r ≡ stageAfter ending ⌝ }
+{
+    match ending {
+        Ending::Asks(ask) => ask_stage(ask),
+        Ending::Ends(number) => 0,
+        Ending::Shows => 0,
+    }
+}
+
+fn answer_after(ending: Ending) -> Answer
+    ensures { λ r. ⌜ r ≡ answerAfter ending ⌝ }
+{
+    match ending {
+        Ending::Asks(ask) => Answer::Asked,
+        Ending::Ends(number) => Answer::Refused(number),
+        Ending::Shows => Answer::Shown,
+    }
+}
+
 // ---- the counters
 
 fn one_more(on: bool, count: u64) -> u64
@@ -298,6 +331,75 @@ fn fresh(time: f64) -> Progress
         stage: 0,
         memo,
     }
+}
+
+// The record as an attempt opens: the end is the time plus the step, rounded once, and the
+// effective step is the end minus the time.
+fn opening(progress: Progress, step: f64, host_jacobian: bool, host_time_partial: bool) -> Progress
+    ensures { λ r. ⌜ r ≡ opening step «host_jacobian» «host_time_partial» progress ⌝ }
+{
+    let end = progress.time + step;
+    let mut open = progress;
+    open.step = end - progress.time;
+    open.end = end;
+    open.host_jacobian = host_jacobian;
+    open.host_time_partial = host_time_partial;
+    open.request = 0;
+    open.stage = 0;
+    open
+}
+
+// What an open attempt reads of the record.
+fn setting_of(fixed: Fixed, progress: Progress) -> Setting
+    ensures { λ r. ⌜ r ≡ settingBy fixed progress ⌝ }
+{
+    let policy = fixed.policy;
+    Setting {
+        n: fixed.n,
+        s: fixed.s,
+        policy,
+        time: progress.time,
+        step: progress.step,
+        host_jacobian: progress.host_jacobian,
+        host_time_partial: progress.host_time_partial,
+    }
+}
+
+fn marks_of(memo: Memo, attempts: bool) -> Marks
+    ensures { λ r. ⌜ r ≡ marksBy memo attempts ⌝ }
+{
+    let counted = Counted {
+        attempts,
+        rhs_evaluations: false,
+        accepted_steps: false,
+        rejected_steps: false,
+        jacobian_evaluations: false,
+        factorizations: false,
+        linear_solves: false,
+    };
+    Marks { memo, counted }
+}
+
+// The record where an open attempt stopped, and the answer.
+fn settled(fixed: Fixed, progress: Progress, statistics: StepStatistics, stop: Stop) -> Outcome
+    ensures { λ r. ⌜ r ≡ outcomeAfter fixed progress statistics stop ⌝ }
+{
+    let marks = stop.marks;
+    let ending = stop.ending;
+    let memo = marks.memo;
+    let counted = marks.counted;
+    let mut after = progress;
+    after.memo = memo;
+    after.request = request_after(ending);
+    after.stage = stage_after(ending);
+    let counters = tallied(counted, statistics);
+    let answer = answer_after(ending);
+    let stepper = RosenbrockStepper {
+        fixed,
+        progress: after,
+        statistics: counters,
+    };
+    Outcome { stepper, answer }
 }
 
 // ---- each call's tests
@@ -426,6 +528,96 @@ fn finite_refusal(values: &[f64], time: f64) -> u32
     0
 }
 
+// attempt and attempt_to begin with 1, 12, 3, 1, 18.
+fn attempt_refusal(
+    fixed: Fixed,
+    progress: Progress,
+    file: &[u8],
+    state: usize,
+    work: usize,
+    pivots: usize,
+) -> u32
+    ensures { λ r. ⌜ r ≡ firstOf (lentTests fixed progress state work pivots ++ (fileTests (fixed .s) (now (file .entry)) ++ (openTest progress ∷ []))) ⌝ }
+{
+    let s = fixed.s;
+    let request = progress.request;
+    let number = fit_refusal(fixed.n, s, request, progress.stage, state, work, pivots);
+    if number != 0 {
+        return number;
+    }
+    let of_file = file_refusal(file, s);
+    if of_file != 0 {
+        return of_file;
+    }
+    if request >= 2 {
+        return stepping::ATTEMPT_OPEN;
+    }
+    0
+}
+
+// And go on with 14, 2, 5 for the step.
+fn step_refusal(progress: Progress, step: f64) -> u32
+    ensures { λ r. ⌜ r ≡ firstOf (stepTests step progress) ⌝ }
+{
+    let time = progress.time;
+    if progress.request == 1 {
+        return stepping::PENDING_CANDIDATE;
+    }
+    match stepping::checked_time(time, step) {
+        Checked::At(_) => 0,
+        Checked::Refused(number) => number,
+    }
+}
+
+// How many values answer a request: the Jacobian's, or a vector's.
+fn wanted(n: usize, request: u32) -> usize
+    requires { ⌜ n ≤ 32 ⌝ }
+    ensures { λ r. ⌜ r ≡ cond (eqb request 3) (n * n) n ⌝ }
+{
+    if request == 3 {
+        return n * n;
+    }
+    n
+}
+
+// supply: 1, 12, 3, 1, 17, 1, 13. The pivots are read where a stage would be solved.
+fn supply_refusal(
+    fixed: Fixed,
+    progress: Progress,
+    file: &[u8],
+    values: usize,
+    state: usize,
+    work: usize,
+    pivots: &[usize],
+) -> u32
+    ensures { λ r. ⌜ r ≡ firstOf (lentTests fixed progress state work (length (now (pivots .entry))) ++ (fileTests (fixed .s) (now (file .entry)) ++ (requestTest progress ∷ answerTests fixed progress values (now (pivots .entry))))) ⌝ }
+{
+    let n = fixed.n;
+    let s = fixed.s;
+    let request = progress.request;
+    let number = fit_refusal(n, s, request, progress.stage, state, work, pivots.len());
+    if number != 0 {
+        return number;
+    }
+    let of_file = file_refusal(file, s);
+    if of_file != 0 {
+        return of_file;
+    }
+    if request < 2 {
+        return stepping::NO_REQUEST;
+    }
+    if values != wanted(n, request) {
+        return stepping::DIMENSION;
+    }
+    if request < 8 {
+        return 0;
+    }
+    if linear::all_below(pivots, n) {
+        return 0;
+    }
+    stepping::PIVOT_RANGE
+}
+
 // A making: 12, 1, 2, 2, 3.
 fn making_refusal(file: &[u8], time: f64, state: &[f64], work: usize, pivots: usize) -> u32
     ensures { λ r. ⌜ r ≡ firstOf (newTests (now (file .entry)) time (now (state .entry)) work pivots) ⌝ }
@@ -494,6 +686,171 @@ impl RosenbrockStepper {
             statistics,
         };
         Making::Made(stepper)
+    }
+
+    // An attempt whose first tests are passed.
+    fn attempt_by(
+        self,
+        file: &[u8],
+        step: f64,
+        host_jacobian: bool,
+        host_time_partial: bool,
+        state: &[f64],
+        work: &mut [f64],
+        pivots: &mut [usize],
+    ) -> Outcome
+        requires { ⌜ shapeFits (self .fixed .n) (self .fixed .s) (length (now state)) (min (neededWork (self .fixed .n) (self .fixed .s)) (length (now work))) (length (now pivots)) ≡ true ⌝ }
+        ensures { λ r. ⌜ nextOf r (now (state .entry)) (now (work .exit)) (now (pivots .exit))
+            ≡ (let m = lending (now (state .entry)) (now (work .entry)) (now (pivots .entry)) in
+            nextBy self m (attemptBy (self .fixed) (now (file .entry)) step «host_jacobian» «host_time_partial» (self .progress) (trimmed (needed (self .fixed)) m))) ⌝ }
+    {
+        let fixed = self.fixed;
+        let before = self.progress;
+        let statistics = self.statistics;
+        let n = fixed.n;
+        let s = fixed.s;
+        let number = step_refusal(before, step);
+        if number != 0 {
+            return Outcome {
+                stepper: self,
+                answer: Answer::Refused(number),
+            };
+        }
+        let need = needed_work(n, s);
+        let progress = opening(before, step, host_jacobian, host_time_partial);
+        let setting = setting_of(fixed, progress);
+        let memo = progress.memo;
+        let marks = marks_of(memo, true);
+        let stop = attempts::start(setting, file, state, &mut work[..need], pivots, marks);
+        settled(fixed, progress, statistics, stop)
+    }
+
+    // Opens an attempt over a step.
+    pub fn attempt(
+        self,
+        file: &[u8],
+        step: f64,
+        host_jacobian: bool,
+        host_time_partial: bool,
+        state: &[f64],
+        work: &mut [f64],
+        pivots: &mut [usize],
+    ) -> Outcome
+        ensures { λ r. ⌜ nextOf r (now (state .entry)) (now (work .exit)) (now (pivots .exit))
+            ≡ stepped (attempt (now (file .entry)) step «host_jacobian» «host_time_partial») (systemOf self (now (state .entry)) (now (work .entry)) (now (pivots .entry))) ⌝ }
+    {
+        let fixed = self.fixed;
+        let progress = self.progress;
+        let number = attempt_refusal(fixed, progress, file, state.len(), work.len(), pivots.len());
+        if number != 0 {
+            return Outcome {
+                stepper: self,
+                answer: Answer::Refused(number),
+            };
+        }
+        self.attempt_by(
+            file,
+            step,
+            host_jacobian,
+            host_time_partial,
+            state,
+            work,
+            pivots,
+        )
+    }
+
+    // Opens an attempt over a proposed step, cut at the endpoint.
+    pub fn attempt_to(
+        self,
+        file: &[u8],
+        endpoint: f64,
+        proposal: f64,
+        host_jacobian: bool,
+        host_time_partial: bool,
+        state: &[f64],
+        work: &mut [f64],
+        pivots: &mut [usize],
+    ) -> Outcome
+        ensures { λ r. ⌜ nextOf r (now (state .entry)) (now (work .exit)) (now (pivots .exit))
+            ≡ stepped (attempt-to (now (file .entry)) endpoint proposal «host_jacobian» «host_time_partial») (systemOf self (now (state .entry)) (now (work .entry)) (now (pivots .entry))) ⌝ }
+    {
+        let fixed = self.fixed;
+        let progress = self.progress;
+        let time = progress.time;
+        let number = attempt_refusal(fixed, progress, file, state.len(), work.len(), pivots.len());
+        if number != 0 {
+            return Outcome {
+                stepper: self,
+                answer: Answer::Refused(number),
+            };
+        }
+        match stepping::endpoint_step(time, endpoint, proposal) {
+            Endpoint::Step(step) => self.attempt_by(
+                file,
+                step,
+                host_jacobian,
+                host_time_partial,
+                state,
+                work,
+                pivots,
+            ),
+            Endpoint::Refused(number) => Outcome {
+                stepper: self,
+                answer: Answer::Refused(number),
+            },
+        }
+    }
+
+    // Answers what is asked, and goes on to the next request, a refusal or the step.
+    pub fn supply(
+        self,
+        file: &[u8],
+        values: &[f64],
+        state: &[f64],
+        work: &mut [f64],
+        pivots: &mut [usize],
+    ) -> Outcome
+        ensures { λ r. ⌜ nextOf r (now (state .entry)) (now (work .exit)) (now (pivots .exit))
+            ≡ stepped (supply (now (file .entry)) (now (values .entry))) (systemOf self (now (state .entry)) (now (work .entry)) (now (pivots .entry))) ⌝ }
+    {
+        let fixed = self.fixed;
+        let progress = self.progress;
+        let statistics = self.statistics;
+        let n = fixed.n;
+        let s = fixed.s;
+        let request = progress.request;
+        let stage = progress.stage;
+        let memo = progress.memo;
+        let number = supply_refusal(
+            fixed,
+            progress,
+            file,
+            values.len(),
+            state.len(),
+            work.len(),
+            pivots,
+        );
+        if number != 0 {
+            return Outcome {
+                stepper: self,
+                answer: Answer::Refused(number),
+            };
+        }
+        let need = needed_work(n, s);
+        let setting = setting_of(fixed, progress);
+        let marks = marks_of(memo, false);
+        let ask = ask_of(request, stage);
+        let stop = attempts::resume(
+            setting,
+            file,
+            state,
+            &mut work[..need],
+            pivots,
+            marks,
+            ask,
+            values,
+        );
+        settled(fixed, progress, statistics, stop)
     }
 
     pub fn accept(self, state: &mut [f64], work: &[f64], pivots: &[usize]) -> Outcome

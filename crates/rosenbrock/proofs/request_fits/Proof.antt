@@ -1,5 +1,5 @@
 -- `rosenbrock::request_fits` meets its contract: test by test. Assumes nothing.
-use mathlib.Core.Path.{refl, sym, _∙_}
+use mathlib.Core.Path.{refl, sym}
 use borrow.Author.Tests.{eq-eqb, ne-eqb, lt-ltb, le-ltb}
 use Rattle.float.proofs.Cases.{yes, no, and-yes, and-no}
 use Rattle.rosenbrock.specs.Requests.{requestFits}

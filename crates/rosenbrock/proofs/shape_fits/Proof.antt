@@ -1,9 +1,6 @@
 -- `rosenbrock::shape_fits` meets its contract: test by test. Assumes nothing.
 use borrow.Author.Needs.{needs}
-use Prim.Native.Nat.{_<_, _≤_}
-use mathlib.Core.Path.{_≡_, ap, _∙_}
 use native.Mathlib.Omega.{arith}
-use Rattle.stages.specs.Layout.{neededWork}
 use Rattle.rosenbrock.proofs.Shapes.{n-low, n-high, s-low, s-high, state-off, work-short, pivots-left}
 use Rattle.rosenbrock.proofs.shape_fits.Statement.{statement}
 use Rattle.rosenbrock.proofs.shape_fits.Tie as tie

@@ -1,5 +1,4 @@
 -- `rosenbrock::tallied` meets its contract: counter by counter. Assumes nothing.
-use mathlib.Core.Path.{_≡_}
 use Rattle.rosenbrock.specs.Stepper.{tallied}
 use Rattle.rosenbrock.proofs.tallied.Statement.{statement}
 use Rattle.rosenbrock.proofs.tallied.Tie as tie
@@ -27,7 +26,16 @@ one-more-requires-7 c κs = tt
 
 returns : tie.Need-returns
 unfolding tallied
-returns c = cc
+returns c =
+    λ i. record {
+      attempts = c .before .before .before .before .before .before .one-more .ensures i;
+      «rhs_evaluations» = c .before .before .before .before .before .one-more2 .ensures i;
+      «accepted_steps» = c .before .before .before .before .one-more3 .ensures i;
+      «rejected_steps» = c .before .before .before .one-more4 .ensures i;
+      «jacobian_evaluations» = c .before .before .one-more5 .ensures i;
+      factorizations = c .before .one-more6 .ensures i;
+      «linear_solves» = c .one-more7 .ensures i;
+    }
 
 pub tallied-spec : {M : Type 1} → statement M
 tallied-spec =

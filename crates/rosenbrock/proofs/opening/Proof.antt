@@ -1,0 +1,12 @@
+-- `rosenbrock::opening` meets its contract. Assumes nothing.
+use mathlib.Core.Path.{refl}
+use Rattle.rosenbrock.specs.Calls.{opening}
+use Rattle.rosenbrock.proofs.opening.Statement.{statement}
+use Rattle.rosenbrock.proofs.opening.Tie as tie
+
+returns : tie.Need-returns
+unfolding opening
+returns c = refl
+
+pub opening-spec : {M : Type 1} → statement M
+opening-spec = tie.close (tie.spec returns)
