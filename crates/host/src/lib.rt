@@ -651,6 +651,70 @@ pub extern "C" fn wiqhano_stepper_new(
 }
 
 #[no_mangle]
+pub extern "C" fn wiqhano_stepper_attempt(
+    stepper: RosenbrockStepper,
+    file: &[u8],
+    step: f64,
+    host_jacobian: bool,
+    host_time_partial: bool,
+    state: &[f64],
+    work: &mut [f64],
+    pivots: &mut [usize],
+) -> StepperAnswer
+    ensures { λ r. ⌜ stepHanded r (lending (now (state .entry)) (now (work .exit)) (now (pivots .exit))) ≡ asNumbers (stepped (call.attempt (now (file .entry)) step «host_jacobian» «host_time_partial») (systemOf stepper (now (state .entry)) (now (work .entry)) (now (pivots .entry)))) ⌝ }
+{
+    step_answer(stepper.attempt(
+        file,
+        step,
+        host_jacobian,
+        host_time_partial,
+        state,
+        work,
+        pivots,
+    ))
+}
+
+#[no_mangle]
+pub extern "C" fn wiqhano_stepper_attempt_to(
+    stepper: RosenbrockStepper,
+    file: &[u8],
+    endpoint: f64,
+    proposal: f64,
+    host_jacobian: bool,
+    host_time_partial: bool,
+    state: &[f64],
+    work: &mut [f64],
+    pivots: &mut [usize],
+) -> StepperAnswer
+    ensures { λ r. ⌜ stepHanded r (lending (now (state .entry)) (now (work .exit)) (now (pivots .exit))) ≡ asNumbers (stepped (call.attempt-to (now (file .entry)) endpoint proposal «host_jacobian» «host_time_partial») (systemOf stepper (now (state .entry)) (now (work .entry)) (now (pivots .entry)))) ⌝ }
+{
+    step_answer(stepper.attempt_to(
+        file,
+        endpoint,
+        proposal,
+        host_jacobian,
+        host_time_partial,
+        state,
+        work,
+        pivots,
+    ))
+}
+
+#[no_mangle]
+pub extern "C" fn wiqhano_stepper_supply(
+    stepper: RosenbrockStepper,
+    file: &[u8],
+    values: &[f64],
+    state: &[f64],
+    work: &mut [f64],
+    pivots: &mut [usize],
+) -> StepperAnswer
+    ensures { λ r. ⌜ stepHanded r (lending (now (state .entry)) (now (work .exit)) (now (pivots .exit))) ≡ asNumbers (stepped (call.supply (now (file .entry)) (now (values .entry))) (systemOf stepper (now (state .entry)) (now (work .entry)) (now (pivots .entry)))) ⌝ }
+{
+    step_answer(stepper.supply(file, values, state, work, pivots))
+}
+
+#[no_mangle]
 pub extern "C" fn wiqhano_stepper_fail(
     stepper: RosenbrockStepper,
     state: &[f64],
