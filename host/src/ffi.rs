@@ -106,6 +106,80 @@ pub struct AssessAnswer {
     pub error: f64,
 }
 
+/// What the making fixed.
+#[repr(C)]
+#[derive(Clone, Copy, Debug)]
+pub struct Fixed {
+    pub n: usize,
+    pub s: usize,
+    pub policy: TimeDifferencePolicy,
+}
+
+/// Which caches hold, whether the error is shown, the times of the probes and of the last request.
+#[repr(C)]
+#[derive(Clone, Copy, Debug)]
+pub struct Memo {
+    pub derivative_valid: bool,
+    pub differentiation_valid: bool,
+    pub error_shown: bool,
+    pub two_probes: bool,
+    pub first_probe: f64,
+    pub second_probe: f64,
+    pub request_time: f64,
+}
+
+/// What the calls move. `request`: 0 nothing, 1 a pending candidate, 2 to 8 what is asked.
+#[repr(C)]
+#[derive(Clone, Copy, Debug)]
+pub struct Progress {
+    pub time: f64,
+    pub step: f64,
+    pub end: f64,
+    pub host_jacobian: bool,
+    pub host_time_partial: bool,
+    pub request: u32,
+    pub stage: usize,
+    pub memo: Memo,
+}
+
+/// Cumulative work. A counter stays at its largest value.
+#[repr(C)]
+#[derive(Clone, Copy, Debug, Default, PartialEq, Eq)]
+pub struct StepStatistics {
+    pub attempts: u64,
+    pub rhs_evaluations: u64,
+    pub accepted_steps: u64,
+    pub rejected_steps: u64,
+    pub jacobian_evaluations: u64,
+    pub factorizations: u64,
+    pub linear_solves: u64,
+}
+
+#[repr(C)]
+#[derive(Clone, Copy, Debug)]
+pub struct RosenbrockStepper {
+    pub fixed: Fixed,
+    pub progress: Progress,
+    pub statistics: StepStatistics,
+}
+
+/// `kind`: 0 refused, with the refusal's `number`; 1 asked, 2 shown, 3 done.
+#[repr(C)]
+#[derive(Clone, Copy, Debug)]
+pub struct StepperAnswer {
+    pub stepper: RosenbrockStepper,
+    pub kind: u32,
+    pub number: u32,
+}
+
+/// `number`: the refusal, 0 for none. The record of a refused making is all zeros.
+#[repr(C)]
+#[derive(Clone, Copy, Debug)]
+pub struct MakingAnswer {
+    pub stepper: RosenbrockStepper,
+    pub number: u32,
+}
+
 // Each is proved safe for every argument, and these take no pointer.
 unsafe extern "C" {
     pub safe fn wiqhano_abs(x: f64) -> f64;
@@ -233,4 +307,108 @@ unsafe extern "C" {
         direction: f64,
         maximum: f64,
     ) -> Answer;
+    pub fn wiqhano_stepper_new(
+        file: *const u8,
+        file_len: usize,
+        policy: TimeDifferencePolicy,
+        time: f64,
+        state: *const f64,
+        state_len: usize,
+        work: *mut f64,
+        work_len: usize,
+        pivots: *mut usize,
+        pivots_len: usize,
+    ) -> MakingAnswer;
+    pub fn wiqhano_stepper_attempt(
+        stepper: RosenbrockStepper,
+        file: *const u8,
+        file_len: usize,
+        step: f64,
+        host_jacobian: bool,
+        host_time_partial: bool,
+        state: *const f64,
+        state_len: usize,
+        work: *mut f64,
+        work_len: usize,
+        pivots: *mut usize,
+        pivots_len: usize,
+    ) -> StepperAnswer;
+    pub fn wiqhano_stepper_attempt_to(
+        stepper: RosenbrockStepper,
+        file: *const u8,
+        file_len: usize,
+        endpoint: f64,
+        proposal: f64,
+        host_jacobian: bool,
+        host_time_partial: bool,
+        state: *const f64,
+        state_len: usize,
+        work: *mut f64,
+        work_len: usize,
+        pivots: *mut usize,
+        pivots_len: usize,
+    ) -> StepperAnswer;
+    pub fn wiqhano_stepper_supply(
+        stepper: RosenbrockStepper,
+        file: *const u8,
+        file_len: usize,
+        values: *const f64,
+        values_len: usize,
+        state: *const f64,
+        state_len: usize,
+        work: *mut f64,
+        work_len: usize,
+        pivots: *mut usize,
+        pivots_len: usize,
+    ) -> StepperAnswer;
+    pub fn wiqhano_stepper_fail(
+        stepper: RosenbrockStepper,
+        state: *const f64,
+        state_len: usize,
+        work: *const f64,
+        work_len: usize,
+        pivots: *const usize,
+        pivots_len: usize,
+    ) -> StepperAnswer;
+    pub fn wiqhano_stepper_accept(
+        stepper: RosenbrockStepper,
+        state: *mut f64,
+        state_len: usize,
+        work: *const f64,
+        work_len: usize,
+        pivots: *const usize,
+        pivots_len: usize,
+    ) -> StepperAnswer;
+    pub fn wiqhano_stepper_reject(
+        stepper: RosenbrockStepper,
+        state: *const f64,
+        state_len: usize,
+        work: *const f64,
+        work_len: usize,
+        pivots: *const usize,
+        pivots_len: usize,
+    ) -> StepperAnswer;
+    pub fn wiqhano_stepper_inject_derivative(
+        stepper: RosenbrockStepper,
+        derivative: *const f64,
+        derivative_len: usize,
+        state: *const f64,
+        state_len: usize,
+        work: *mut f64,
+        work_len: usize,
+        pivots: *const usize,
+        pivots_len: usize,
+    ) -> StepperAnswer;
+    pub fn wiqhano_stepper_reset(
+        stepper: RosenbrockStepper,
+        time: f64,
+        values: *const f64,
+        values_len: usize,
+        state: *mut f64,
+        state_len: usize,
+        work: *mut f64,
+        work_len: usize,
+        pivots: *mut usize,
+        pivots_len: usize,
+    ) -> StepperAnswer;
 }

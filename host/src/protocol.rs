@@ -1,16 +1,20 @@
-//! The oracle's protocol, answered by the port: a command a line, an answer a line. A command that
-//! the port does not have is answered `bad command NAME`.
+//! The oracle's protocol, answered by the port: a command a line, an answer a line; what an attempt
+//! needs is the answer to the line after which it needs it. A command that the port does not have is
+//! answered `bad command NAME`.
+mod stepper;
 pub mod text;
 
 use crate::controller::{
     AdaptiveController, ControllerConfig, ControllerError, ControllerState, MinimumStepPolicy,
 };
 use crate::linear::{self, DenseLu};
+use crate::rosenbrock::calls::Record;
 use crate::{
     Failure, StiffSegment, TimeDifferencePolicy, checked_time, endpoint_step, initial_step,
     partial, scaled_error_norm, sqrt,
 };
 use std::io::{self, BufRead, Write};
+use stepper::Steppers;
 use text::{Args, double, numbers, option, vector};
 
 /// What a command answers; `Err` where the line is wrong and nothing was called.
@@ -20,9 +24,15 @@ pub type Answer = Result<String, String>;
 #[derive(Default)]
 pub struct Host {
     controller: Option<AdaptiveController>,
+    steppers: Steppers,
 }
 
 impl Host {
+    /// The stepper's record.
+    pub fn record(&self) -> Option<&Record> {
+        self.steppers.record()
+    }
+
     /// The answer to one command, comments and spaces around it taken off.
     pub fn answer(&mut self, line: &str) -> String {
         self.command(&Args::new(line))
@@ -47,7 +57,10 @@ impl Host {
             "initial_step" => self.initial_step(args),
             "segment" => self.segment(args),
             "ctl" => self.control(args),
-            _ => Err(format!("command {name}")),
+            _ => {
+                let answer = self.steppers.command(name, args);
+                answer.unwrap_or_else(|| Err(format!("command {name}")))
+            }
         }
     }
 

@@ -291,7 +291,7 @@ fn probes(r: &mut Random) -> String {
 }
 
 /// Mostly finite and positive.
-fn setting(r: &mut Random) -> f64 {
+pub(crate) fn setting(r: &mut Random) -> f64 {
     if r.chance(5) {
         r.double()
     } else {
@@ -299,7 +299,7 @@ fn setting(r: &mut Random) -> f64 {
     }
 }
 
-fn bounds(r: &mut Random, time: f64, step: f64) -> (f64, f64) {
+pub(crate) fn bounds(r: &mut Random, time: f64, step: f64) -> (f64, f64) {
     let end = time + step;
     let (low, high) = (time.min(end), time.max(end));
     match r.below(12) {

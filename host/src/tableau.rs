@@ -1,6 +1,58 @@
 //! The tableau file.
 use crate::{Failure, ffi};
 
+/// What a tableau file holds. a and coupling hold only j < i, row by row.
+#[derive(Clone, Debug, PartialEq)]
+pub struct Coefficients {
+    pub hybrid: bool,
+    pub step_doubling: bool,
+    pub gamma: f64,
+    pub a: Vec<f64>,
+    pub coupling: Vec<f64>,
+    pub c: Vec<f64>,
+    pub d: Vec<f64>,
+    pub b: Vec<f64>,
+    pub btilde: Option<Vec<f64>>,
+}
+
+impl Coefficients {
+    /// The tableau file, for as many stages as b has elements. What no file can hold makes bytes
+    /// that are no tableau file.
+    pub fn file(&self) -> Vec<u8> {
+        let stages = self.b.len().min(9) as u32;
+        let counts = [
+            stages,
+            self.hybrid.into(),
+            self.step_doubling.into(),
+            self.btilde.is_some().into(),
+        ];
+        let gamma = [self.gamma];
+        let parts = [
+            &gamma,
+            &self.a[..],
+            &self.coupling,
+            &self.c,
+            &self.d,
+            &self.b,
+        ];
+        let mut at = 48;
+        let mut offset = |part: &[f64]| {
+            let start = at;
+            at += 8 * part.len() as u32;
+            start
+        };
+        let offsets = parts.map(&mut offset);
+        let btilde = self.btilde.as_deref();
+        let last = btilde.map_or(0, &mut offset);
+        let numbers = counts.iter().chain(&offsets).chain([&last, &at]);
+        let doubles = parts.into_iter().chain(btilde).flatten();
+        numbers
+            .flat_map(|x| x.to_le_bytes())
+            .chain(doubles.flat_map(|x| x.to_le_bytes()))
+            .collect()
+    }
+}
+
 /// Whether the bytes are a tableau file.
 #[inline]
 pub fn check(file: &[u8]) -> Result<(), Failure> {

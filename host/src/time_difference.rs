@@ -22,6 +22,22 @@ impl Default for TimeDifferencePolicy {
     }
 }
 
+impl From<TimeDifferencePolicy> for ffi::TimeDifferencePolicy {
+    fn from(policy: TimeDifferencePolicy) -> Self {
+        let (lo, hi) = policy.bounds.unwrap_or_default();
+        Self {
+            scale: policy.scale,
+            relative_step: policy.relative_step,
+            maximum_fraction: policy.maximum_fraction,
+            bounds: ffi::Bounds {
+                present: policy.bounds.is_some(),
+                lo,
+                hi,
+            },
+        }
+    }
+}
+
 impl TimeDifferencePolicy {
     /// The times at which to probe for a step; the second may be absent.
     #[inline]

@@ -1,8 +1,9 @@
 //! The port beside the original (WIQHANO_ORACLE names the oracle's program) and beside Rust's own
 //! floats, on random inputs. WIQHANO_SEED sets the seed, WIQHANO_COUNT the inputs for each call.
+mod oracle;
+
+use oracle::original;
 use std::collections::BTreeMap;
-use std::io::{BufRead, BufReader, BufWriter, Write};
-use std::process::{Command, Stdio};
 use wiqhano::protocol::Host;
 use wiqhano::protocol::text::double as hex;
 use wiqhano::random::{self, Random, power};
@@ -13,30 +14,6 @@ fn count() -> usize {
     text.map_or(200_000, |t| {
         t.parse().expect("WIQHANO_COUNT is a whole number")
     })
-}
-
-/// The oracle's answers, a line each. It is fed from another thread, so that neither pipe fills up
-/// while both sides wait.
-fn original(oracle: &str, lines: &[String]) -> Vec<String> {
-    let mut child = Command::new(oracle)
-        .env_remove("ORACLE_ECHO")
-        .stdin(Stdio::piped())
-        .stdout(Stdio::piped())
-        .spawn()
-        .unwrap_or_else(|e| panic!("{oracle}: {e}"));
-    let stdin = child.stdin.take().unwrap();
-    let stdout = BufReader::new(child.stdout.take().unwrap());
-    let answers = std::thread::scope(|scope| {
-        scope.spawn(move || {
-            let mut stdin = BufWriter::new(stdin);
-            for line in lines {
-                writeln!(stdin, "{line}").unwrap();
-            }
-        });
-        stdout.lines().map(Result::unwrap).collect()
-    });
-    assert!(child.wait().unwrap().success(), "the oracle failed");
-    answers
 }
 
 /// Differences are printed, the first ten of each call.
@@ -90,7 +67,7 @@ fn the_original() {
             let first = "ctl new".to_string();
             let lines = (1..part).map(|_| (command.line)(&mut random));
             let lines: Vec<String> = std::iter::once(first).chain(lines).collect();
-            let answers = original(&oracle, &lines);
+            let answers = original(&oracle, lines.iter());
             assert_eq!(
                 answers.len(),
                 part,

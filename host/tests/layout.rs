@@ -6,6 +6,7 @@ mod ffi;
 
 use ffi::{AdaptiveController, AssessAnswer, ControllerConfig, ControllerState, Settings, Settled};
 use ffi::{Answer, Bounds, ProbeTimes, SameAnswer, TimeDifferencePolicy as Policy};
+use ffi::{Fixed, MakingAnswer, Memo, Progress, RosenbrockStepper, StepStatistics, StepperAnswer};
 use std::mem::{align_of, offset_of, size_of};
 use wiqhano as _; // links the archive
 
@@ -84,6 +85,57 @@ fn sizes_and_offsets_of_the_controller() {
     assert_eq!(offset_of!(AssessAnswer, forced), 45);
     assert_eq!(offset_of!(AssessAnswer, next_step), 48);
     assert_eq!(offset_of!(AssessAnswer, error), 56);
+}
+
+#[test]
+fn sizes_and_offsets_of_the_stepper() {
+    assert_eq!((size_of::<Memo>(), align_of::<Memo>()), (32, 8));
+    assert_eq!(offset_of!(Memo, derivative_valid), 0);
+    assert_eq!(offset_of!(Memo, differentiation_valid), 1);
+    assert_eq!(offset_of!(Memo, error_shown), 2);
+    assert_eq!(offset_of!(Memo, two_probes), 3);
+    assert_eq!(offset_of!(Memo, first_probe), 8);
+    assert_eq!(offset_of!(Memo, second_probe), 16);
+    assert_eq!(offset_of!(Memo, request_time), 24);
+
+    assert_eq!((size_of::<Fixed>(), align_of::<Fixed>()), (64, 8));
+    assert_eq!(offset_of!(Fixed, n), 0);
+    assert_eq!(offset_of!(Fixed, s), 8);
+    assert_eq!(offset_of!(Fixed, policy), 16);
+
+    assert_eq!((size_of::<Progress>(), align_of::<Progress>()), (72, 8));
+    assert_eq!(offset_of!(Progress, time), 0);
+    assert_eq!(offset_of!(Progress, step), 8);
+    assert_eq!(offset_of!(Progress, end), 16);
+    assert_eq!(offset_of!(Progress, host_jacobian), 24);
+    assert_eq!(offset_of!(Progress, host_time_partial), 25);
+    assert_eq!(offset_of!(Progress, request), 28);
+    assert_eq!(offset_of!(Progress, stage), 32);
+    assert_eq!(offset_of!(Progress, memo), 40);
+
+    assert_eq!(size_of::<StepStatistics>(), 56);
+    assert_eq!(offset_of!(StepStatistics, attempts), 0);
+    assert_eq!(offset_of!(StepStatistics, rhs_evaluations), 8);
+    assert_eq!(offset_of!(StepStatistics, accepted_steps), 16);
+    assert_eq!(offset_of!(StepStatistics, rejected_steps), 24);
+    assert_eq!(offset_of!(StepStatistics, jacobian_evaluations), 32);
+    assert_eq!(offset_of!(StepStatistics, factorizations), 40);
+    assert_eq!(offset_of!(StepStatistics, linear_solves), 48);
+
+    type Stepper = RosenbrockStepper;
+    assert_eq!((size_of::<Stepper>(), align_of::<Stepper>()), (192, 8));
+    assert_eq!(offset_of!(Stepper, fixed), 0);
+    assert_eq!(offset_of!(Stepper, progress), 64);
+    assert_eq!(offset_of!(Stepper, statistics), 136);
+
+    assert_eq!(size_of::<StepperAnswer>(), 200);
+    assert_eq!(offset_of!(StepperAnswer, stepper), 0);
+    assert_eq!(offset_of!(StepperAnswer, kind), 192);
+    assert_eq!(offset_of!(StepperAnswer, number), 196);
+
+    assert_eq!(size_of::<MakingAnswer>(), 200);
+    assert_eq!(offset_of!(MakingAnswer, stepper), 0);
+    assert_eq!(offset_of!(MakingAnswer, number), 192);
 }
 
 #[test]
@@ -176,4 +228,148 @@ fn a_bool_goes_out_and_comes_back() {
     assert_eq!(ffi::wiqhano_partial(0.0, 3.0, 8.0, 1.0, 2.0, true), 2.0);
     assert!(ffi::wiqhano_is_nan(f64::NAN) && !ffi::wiqhano_is_nan(0.0));
     assert!(ffi::wiqhano_is_finite(0.0) && !ffi::wiqhano_is_finite(f64::NAN));
+}
+
+/// Another value in each field, n and s apart. Request and stage fit each other.
+fn record(n: usize, s: usize, request: u32) -> RosenbrockStepper {
+    RosenbrockStepper {
+        fixed: Fixed {
+            n,
+            s,
+            policy: Policy {
+                scale: 4.0,
+                relative_step: 0.0625,
+                maximum_fraction: 0.5,
+                bounds: Bounds {
+                    present: true,
+                    lo: -3.0,
+                    hi: 99.0,
+                },
+            },
+        },
+        progress: Progress {
+            time: 1.5,
+            step: 0.25,
+            end: 1.75,
+            host_jacobian: true,
+            host_time_partial: false,
+            request,
+            stage: 0,
+            memo: Memo {
+                derivative_valid: true,
+                differentiation_valid: false,
+                error_shown: true,
+                two_probes: false,
+                first_probe: 1.25,
+                second_probe: 1.125,
+                request_time: 1.0625,
+            },
+        },
+        statistics: StepStatistics {
+            attempts: 11,
+            rhs_evaluations: 12,
+            accepted_steps: 13,
+            rejected_steps: 14,
+            jacobian_evaluations: 15,
+            factorizations: 16,
+            linear_solves: 17,
+        },
+    }
+}
+
+fn text(record: RosenbrockStepper) -> String {
+    format!("{record:?}")
+}
+
+/// For one component and one stage: 12 doubles of work, the first of them the candidate.
+fn decided(record: RosenbrockStepper, accept: bool) -> (StepperAnswer, f64) {
+    let (mut state, work, pivots) = ([5.0], [7.0; 12], [0]);
+    let answer = unsafe {
+        match accept {
+            true => ffi::wiqhano_stepper_accept(
+                record,
+                state.as_mut_ptr(),
+                1,
+                work.as_ptr(),
+                12,
+                pivots.as_ptr(),
+                1,
+            ),
+            false => ffi::wiqhano_stepper_reject(
+                record,
+                state.as_ptr(),
+                1,
+                work.as_ptr(),
+                12,
+                pivots.as_ptr(),
+                1,
+            ),
+        }
+    };
+    (answer, state[0])
+}
+
+#[test]
+fn a_record_goes_out_and_comes_back_field_by_field() {
+    let given = record(1, 1, 1);
+    let (answer, state) = decided(given, false);
+    assert_eq!((answer.kind, answer.number, state), (3, 0, 5.0));
+    let mut expected = given;
+    expected.progress.request = 0;
+    expected.statistics.rejected_steps = 15;
+    assert_eq!(text(answer.stepper), text(expected));
+
+    let (answer, state) = decided(given, true);
+    assert_eq!((answer.kind, answer.number, state), (3, 0, 7.0));
+    let mut expected = given;
+    expected.progress.request = 0;
+    expected.progress.time = 1.75;
+    expected.progress.memo.derivative_valid = false;
+    expected.statistics.accepted_steps = 14;
+    assert_eq!(text(answer.stepper), text(expected));
+
+    let given = record(1, 1, 0);
+    let (answer, state) = decided(given, true);
+    assert_eq!((answer.kind, answer.number, state), (0, 15, 5.0));
+    assert_eq!(text(answer.stepper), text(given));
+}
+
+#[test]
+fn a_making_puts_each_field_in_its_place() {
+    // s = 2, gamma, and the offsets of a, coupling, c, d, b; no btilde
+    let mut file = Vec::new();
+    for number in [2, 0, 0, 0, 48, 56, 64, 72, 88, 104, 0, 120_u32] {
+        file.extend(number.to_le_bytes());
+    }
+    file.extend(std::iter::repeat_n(0.5_f64.to_le_bytes(), 9).flatten());
+    let policy = record(1, 1, 0).fixed.policy;
+    let (state, mut work, mut pivots) = ([1.0, 2.0, 3.0], [7.0; 55], [9; 3]);
+    let mut made = |file: &[u8]| unsafe {
+        let (work, pivots) = (work.as_mut_ptr(), pivots.as_mut_ptr());
+        let state = state.as_ptr();
+        ffi::wiqhano_stepper_new(
+            file.as_ptr(),
+            file.len(),
+            policy,
+            1.5,
+            state,
+            3,
+            work,
+            55,
+            pivots,
+            3,
+        )
+    };
+    // a refused making hands back zeros
+    let refused = made(&file[1..]);
+    let zeros = unsafe { std::mem::zeroed() };
+    assert_eq!((refused.number, text(refused.stepper)), (12, text(zeros)));
+    let mut expected: RosenbrockStepper = zeros;
+    expected.fixed = Fixed { n: 3, s: 2, policy };
+    expected.progress.time = 1.5;
+    let answer = made(&file);
+    assert_eq!((answer.number, text(answer.stepper)), (0, text(expected)));
+    // 8 * 3 + 2 * 9 + 2 * 2 * 3 doubles are needed
+    assert_eq!(work[..54], [0.0; 54]);
+    assert_eq!((work[54], pivots), (7.0, [0; 3]));
 }

@@ -50,8 +50,20 @@ fn control() {
     replayed("control");
 }
 
+/// The stepper: edges, and telling inputs.
+#[test]
+fn stepper() {
+    replayed("stepper");
+}
+
 /// Random lines.
 #[test]
 fn random() {
     replayed("random");
+}
+
+/// Random lists of the stepper's calls.
+#[test]
+fn lists() {
+    replayed("lists");
 }

@@ -1,6 +1,7 @@
 //! The port's time beside the original's, call by call, in one run: the same inputs, batches of the
 //! two by turns, the median of each. It prints, and judges nothing.
 use differential_equations::stepping as original;
+use differential_equations::tableau as original_tableau;
 use std::hint::black_box;
 use std::time::Instant;
 use wiqhano::random::Random;
@@ -107,7 +108,7 @@ fn beside<I, T, U>(
     }
     let (port, original) = (median(ports), median(originals));
     let ratio = port / original;
-    println!("{name:<16} port {port:7.2} ns  original {original:7.2} ns  ratio {ratio:.2}");
+    println!("{name:<17} port {port:8.2} ns  original {original:8.2} ns  ratio {ratio:.2}");
 }
 
 // Not inlined, as the port's calls, which stand behind a C interface, cannot be.
@@ -291,6 +292,117 @@ fn beside_the_stepper(random: &mut Random) {
     }
 }
 
+/// What an attempt is handed and is answered.
+struct Attempt {
+    step: f64,
+    derivative: Vec<f64>,
+    jacobian: Vec<f64>,
+    time_partial: Vec<f64>,
+}
+
+fn copying(values: &[f64]) -> impl FnMut(f64, &[f64], &mut [f64]) -> Result<(), ()> {
+    |_, _, out| {
+        out.copy_from_slice(values);
+        Ok(())
+    }
+}
+
+/// The same for both sides: the attempt, and whether it showed its step.
+macro_rules! attempted {
+    ($stepper:expr, $input:expr) => {{
+        let mut rhs = copying(&$input.derivative);
+        let mut jacobian = copying(&$input.jacobian);
+        let mut partial = copying(&$input.time_partial);
+        let hooks = (Some(&mut jacobian as _), Some(&mut partial as _));
+        $stepper
+            .attempt($input.step, &mut rhs, hooks.0, hooks.1)
+            .is_ok()
+    }};
+}
+
+fn rows(lower: &[f64], s: usize) -> Vec<Vec<f64>> {
+    let row = |i: usize| {
+        (0..s).map(move |j| {
+            if j < i {
+                lower[i * (i - 1) / 2 + j]
+            } else {
+                0.0
+            }
+        })
+    };
+    (0..s).map(|i| row(i).collect()).collect()
+}
+
+/// Whole attempts: accepted, so that everything is asked for; and rejected and repeated, with the
+/// derivative, the Jacobian and the time partial kept.
+fn steppers(random: &mut Random) {
+    for s in [1, 4, 8] {
+        let mut some = |k: usize| -> Vec<f64> { (0..k).map(|_| random.unit() - 0.5).collect() };
+        let (a, coupling, b, btilde) = (
+            some(s * (s - 1) / 2),
+            some(s * (s - 1) / 2),
+            some(s),
+            some(s),
+        );
+        let (mut c, d) = (some(s), some(s));
+        c[0] = 0.0;
+        let like: &'static _ =
+            Box::leak(Box::new(original_tableau::RosenbrockTableau::oracle_new(
+                original_tableau::RosenbrockErrorEstimator::Embedded,
+                original_tableau::RosenbrockKind::Rosenbrock,
+                4,
+                0.25,
+                rows(&a, s),
+                rows(&coupling, s),
+                c.clone(),
+                d.clone(),
+                b.clone(),
+                Some(btilde.clone()),
+                Vec::new(),
+            )));
+        let file = wiqhano::tableau::Coefficients {
+            hybrid: false,
+            step_doubling: false,
+            gamma: 0.25,
+            a,
+            coupling,
+            c,
+            d,
+            b,
+            btilde: Some(btilde),
+        }
+        .file();
+        for n in [1, 2, 4, 8, 16, 32] {
+            let mut some = |k: usize| -> Vec<f64> { (0..k).map(|_| random.unit() - 0.5).collect() };
+            let state = some(n);
+            // forth and back, so that neither time nor state runs away
+            let inputs: Vec<Attempt> = (0..(INPUTS / (n * n * s)).max(8) * 2)
+                .map(|k| Attempt {
+                    step: if k % 2 == 0 { 0.125 } else { -0.125 },
+                    derivative: some(n),
+                    jacobian: some(n * n),
+                    time_partial: some(n),
+                })
+                .collect();
+            let mut port = wiqhano::RosenbrockStepper::new(&file, 0.0, &state).expect("a stepper");
+            let mut other = original::RosenbrockStepper::new(like, 0.0, &state).expect("a stepper");
+            beside(
+                &format!("accepted s {s} n {n}"),
+                &inputs,
+                |input| (attempted!(port, input), port.accept().is_ok()),
+                |input| (attempted!(other, input), other.accept().is_ok()),
+            );
+            assert_eq!(port.state(), other.state());
+            beside(
+                &format!("rejected s {s} n {n}"),
+                &inputs,
+                |input| (attempted!(port, input), port.reject().is_ok()),
+                |input| (attempted!(other, input), other.reject().is_ok()),
+            );
+        }
+    }
+}
+
 fn main() {
     let mut random = Random::new(1);
     // A time, an end after it, a step, a scale, and a value: what a stepper meets.
@@ -354,4 +466,5 @@ fn main() {
     }
     linear(&mut random);
     beside_the_stepper(&mut random);
+    steppers(&mut random);
 }

@@ -114,6 +114,15 @@ impl<'a> Args<'a> {
         number.map_err(|_| format!("integer argument {i}"))
     }
 
+    /// `h`: the host supplies it; `p`: it is probed.
+    pub fn host(&self, i: usize) -> Result<bool, String> {
+        match self.token(i)? {
+            "h" => Ok(true),
+            "p" => Ok(false),
+            token => Err(format!("h or p, not {token}")),
+        }
+    }
+
     pub fn named(&self, key: &str) -> Option<&'a str> {
         self.named.get(key).copied()
     }

@@ -1,0 +1,318 @@
+//! The stepper's commands. A call that the library refuses because an attempt is open, or because
+//! none is, is answered `err 18` or `err 17`; the oracle has `bad` there.
+use super::Answer;
+use super::text::{Args, double, numbers, option, to_numbers, vector};
+use crate::Failure;
+use crate::rosenbrock::calls::{self, Memory, Modes, Record, Told};
+use crate::rosenbrock::reading::{self, Part};
+use crate::rosenbrock::{Ask, RosenbrockStepView, StepStatistics};
+use crate::tableau::{self, Coefficients};
+
+/// The last tableau file, and the stepper.
+#[derive(Default)]
+pub struct Steppers {
+    tableau: Option<Vec<u8>>,
+    stepper: Option<Stepper>,
+}
+
+/// A stepper with the file that it was made with.
+struct Stepper {
+    file: Vec<u8>,
+    record: Record,
+    memory: Memory,
+}
+
+impl Steppers {
+    pub fn record(&self) -> Option<&Record> {
+        self.stepper.as_ref().map(|s| &s.record)
+    }
+
+    /// None for a command that is not the stepper's.
+    pub fn command(&mut self, name: &str, args: &Args<'_>) -> Option<Answer> {
+        Some(match name {
+            "tableau" => coefficients(args).map(|c| self.tableau(c.b.len(), c.file())),
+            "tabfile" => file(args).map(|file| self.tableau(tableau::stages(&file), file)),
+            "make" | "makeb" => self.make(args),
+            "attempt" => self.attempt(args),
+            "attempt_to" => self.attempt_to(args),
+            "give" => self.give(args),
+            "fail" => self.unit(|s| calls::fail(&mut s.record, s.memory.lend())),
+            "accept" => self.unit(|s| calls::accept(&mut s.record, s.memory.lend())),
+            "reject" => self.unit(|s| calls::reject(&mut s.record, s.memory.lend())),
+            "inject" => self.inject(args),
+            "reset" => self.reset(args),
+            "show" => self.reader(|_| "ok".into()),
+            "setstats" => self.set_statistics(args),
+            "dump" => self.reader(|s| s.dump()),
+            _ => return None,
+        })
+    }
+
+    fn tableau(&mut self, stages: usize, file: Vec<u8>) -> String {
+        self.tableau = Some(file);
+        format!("ok stages={stages}")
+    }
+
+    fn make(&mut self, args: &Args<'_>) -> Answer {
+        let file = self.tableau.clone().ok_or("no tableau")?;
+        let (time, state) = (args.double(1)?, args.vector(2)?);
+        let policy = args.policy(); // where it is wrong, a refusal still comes first
+        let mut memory = Memory::new(&state, tableau::stages(&file));
+        let judged_later = policy.clone().unwrap_or_default().into();
+        let record = match calls::new(&file, judged_later, time, memory.lend()) {
+            Ok(record) => record,
+            Err(failure) => return Ok(refusal(failure)),
+        };
+        policy?;
+        let stepper = self.stepper.insert(Stepper {
+            file,
+            record,
+            memory,
+        });
+        Ok(format!("ok {}", stepper.now()))
+    }
+
+    fn stepper(&mut self) -> Result<&mut Stepper, String> {
+        self.stepper.as_mut().ok_or("no stepper".into())
+    }
+
+    fn unit(&mut self, call: impl FnOnce(&mut Stepper) -> calls::Answer) -> Answer {
+        let stepper = self.stepper()?;
+        let answer = call(stepper);
+        Ok(stepper.told(answer))
+    }
+
+    fn reader(&mut self, read: impl FnOnce(&Stepper) -> String) -> Answer {
+        let stepper = self.stepper()?;
+        Ok(match Ask::of(&stepper.record) {
+            Some(_) => refusal(Failure::AttemptOpen),
+            None => format!("{} {}", read(stepper), stepper.now()),
+        })
+    }
+
+    fn attempt(&mut self, args: &Args<'_>) -> Answer {
+        let (step, modes) = (args.double(1)?, modes(args, 2)?);
+        self.unit(|s| calls::attempt(&mut s.record, &s.file, step, modes, s.memory.lend()))
+    }
+
+    fn attempt_to(&mut self, args: &Args<'_>) -> Answer {
+        let (endpoint, proposal) = (args.double(1)?, args.double(2)?);
+        let modes = modes(args, 3)?;
+        self.unit(|s| {
+            let (record, lent) = (&mut s.record, s.memory.lend());
+            calls::attempt_to(record, &s.file, endpoint, proposal, modes, lent)
+        })
+    }
+
+    fn give(&mut self, args: &Args<'_>) -> Answer {
+        let values = args.vector(1)?;
+        let s = self.stepper()?;
+        let answer = calls::supply(&mut s.record, &s.file, &values, s.memory.lend());
+        // in the original's words
+        match (answer, reading::request(&s.record, &s.memory)) {
+            (Err(Failure::Dimension), Some(request)) if request.wanted != values.len() => {
+                Err(format!("length, wants {}", request.wanted))
+            }
+            _ => Ok(s.told(answer)),
+        }
+    }
+
+    fn inject(&mut self, args: &Args<'_>) -> Answer {
+        let derivative = args.vector(1)?;
+        self.unit(|s| calls::inject_derivative(&mut s.record, &derivative, s.memory.lend()))
+    }
+
+    fn reset(&mut self, args: &Args<'_>) -> Answer {
+        let (time, state) = (args.double(1)?, args.vector(2)?);
+        self.unit(|s| calls::reset(&mut s.record, time, &state, s.memory.lend()))
+    }
+
+    fn set_statistics(&mut self, args: &Args<'_>) -> Answer {
+        let counters = to_numbers(args.token(1)?)?;
+        let counters: Vec<u64> = counters.into_iter().map(|x| x as u64).collect();
+        let [
+            attempts,
+            rhs,
+            accepted,
+            rejected,
+            jacobian,
+            factorizations,
+            solves,
+        ] = counters[..]
+        else {
+            return Err("seven counters".into());
+        };
+        let stepper = self.stepper()?;
+        if Ask::of(&stepper.record).is_none() {
+            stepper.record.statistics = StepStatistics {
+                attempts,
+                rhs_evaluations: rhs,
+                accepted_steps: accepted,
+                rejected_steps: rejected,
+                jacobian_evaluations: jacobian,
+                factorizations,
+                linear_solves: solves,
+            };
+        }
+        self.reader(|_| "ok".into())
+    }
+}
+
+impl Stepper {
+    /// The answer of a call: what is needed, or the answer and what is accepted now. While an
+    /// attempt is open, what is accepted is not shown.
+    fn told(&self, answer: calls::Answer) -> String {
+        let text = match answer {
+            Ok(Told::Asked) => return self.need(),
+            Ok(Told::Shown) => view(&reading::view(&self.record, &self.memory)),
+            Ok(Told::Done) => "ok".into(),
+            Err(failure) => refusal(failure),
+        };
+        match Ask::of(&self.record) {
+            Some(_) => text,
+            None => format!("{text} {}", self.now()),
+        }
+    }
+
+    fn need(&self) -> String {
+        let request = reading::request(&self.record, &self.memory).expect("a request");
+        let kind = match request.ask {
+            Ask::Jacobian => "jac",
+            Ask::TimePartial => "tp",
+            _ => "rhs",
+        };
+        let (time, state) = (double(request.time), vector(request.state));
+        format!("need {kind} time={time} state={state}")
+    }
+
+    fn now(&self) -> String {
+        format!(
+            "{} time={} state={}",
+            statistics(self.record.statistics),
+            double(self.record.progress.time),
+            vector(&self.memory.state)
+        )
+    }
+
+    fn dump(&self) -> String {
+        let memo = &self.record.progress.memo;
+        let pending = reading::pending(&self.record);
+        let mut text = format!(
+            "ok derivative={} differentiation={} pending={}",
+            u8::from(memo.derivative_valid),
+            u8::from(memo.differentiation_valid),
+            option(pending)
+        );
+        for (name, which) in [
+            ("candidate", Part::Candidate),
+            ("error", Part::Error),
+            ("stages", Part::Stages),
+            ("rhs_stages", Part::RhsStages),
+            ("stage_state", Part::StageState),
+            ("current", Part::Current),
+            ("jacobian", Part::Jacobian),
+            ("factors", Part::Factors),
+            ("time_partial", Part::TimePartial),
+            ("probe_state", Part::ProbeState),
+            ("probe_rhs", Part::ProbeRhs),
+            ("linear_rhs", Part::LinearRhs),
+        ] {
+            let values = vector(reading::part(&self.record, &self.memory, which));
+            text += &format!(" {name}={values}");
+        }
+        format!("{text} pivots={}", numbers(&self.memory.pivots))
+    }
+}
+
+fn modes(args: &Args<'_>, i: usize) -> Result<Modes, String> {
+    Ok(Modes {
+        host_jacobian: args.host(i)?,
+        host_time_partial: args.host(i + 1)?,
+    })
+}
+
+/// In the original's words, where these are others.
+fn refusal(failure: Failure) -> String {
+    let name = match failure {
+        Failure::Singular => "SingularSystem",
+        Failure::HostFailure => "User",
+        failure => failure.name(),
+    };
+    format!("err {} {name}", failure.number())
+}
+
+fn statistics(s: StepStatistics) -> String {
+    format!(
+        "stats={},{},{},{},{},{},{}",
+        s.attempts,
+        s.rhs_evaluations,
+        s.accepted_steps,
+        s.rejected_steps,
+        s.jacobian_evaluations,
+        s.factorizations,
+        s.linear_solves
+    )
+}
+
+fn view(v: &RosenbrockStepView<'_>) -> String {
+    format!(
+        "ok prev={} start={} end={} cand={} err={} solved={} rhs={} jac={} tp={} view_{}",
+        vector(v.previous_state),
+        double(v.start_time),
+        double(v.end_time),
+        vector(v.candidate),
+        v.component_error.map_or("-".into(), vector),
+        vector(v.solved_stages),
+        vector(v.stage_derivatives),
+        vector(v.jacobian),
+        vector(v.time_partial),
+        statistics(v.statistics)
+    )
+}
+
+/// gamma= a= C= c= d= b= btilde= est= kind=, each 0 where it is left out, but gamma and b 1.
+fn coefficients(args: &Args<'_>) -> Result<Coefficients, String> {
+    let b = args.named_vector("b", &[1.0])?;
+    let s = b.len();
+    // 9 stages make no file, however many they are
+    let part = |key: &str, length: usize, wants: &str| {
+        let part = args.named_vector(key, &vec![0.0; length.min(36)])?;
+        match args.named(key) {
+            Some(_) if part.len() != length => Err(format!("{key}: wants {wants} entries")),
+            _ => Ok(part),
+        }
+    };
+    let lower = |key: &str| part(key, s * s.saturating_sub(1) / 2, "s(s-1)/2");
+    let whole = |key: &str| part(key, s, "s");
+    let btilde = match args.named("btilde") {
+        None | Some("-") => None,
+        Some(_) => Some(whole("btilde")?),
+    };
+    args.named_vector("h", &[])?; // of residual control, which is left out
+    Ok(Coefficients {
+        step_doubling: match args.named("est") {
+            None | Some("emb") => false,
+            Some("rich") => true,
+            _ => return Err("est".into()),
+        },
+        hybrid: match args.named("kind") {
+            None | Some("ros") => false,
+            Some("hybrid") => true,
+            _ => return Err("kind".into()),
+        },
+        gamma: args.named_double("gamma", 1.0)?,
+        a: lower("a")?,
+        coupling: lower("C")?,
+        c: whole("c")?,
+        d: whole("d")?,
+        b,
+        btilde,
+    })
+}
+
+fn file(args: &Args<'_>) -> Result<Vec<u8>, String> {
+    let digits = args.token(1)?;
+    let pairs = (0..digits.len() / 2).map(|i| digits.get(2 * i..2 * i + 2).unwrap_or_default());
+    let bytes = pairs.map(|pair| u8::from_str_radix(pair, 16));
+    bytes.collect::<Result<_, _>>().map_err(|_| "bytes".into())
+}

@@ -1,0 +1,256 @@
+//! The stepper in the original's shape: an attempt calls the host's functions for what the library
+//! asks for.
+pub mod calls;
+pub(crate) mod reading;
+
+use crate::{Failure, TimeDifferencePolicy, tableau};
+use calls::{Answer, Memory, Modes, Record, Told};
+use std::fmt;
+
+pub use calls::StepStatistics;
+pub use reading::Ask;
+
+/// A Jacobian, by rows, or a time partial at a fixed state: time, state, and where to write. What
+/// is not written is 0.
+pub type DerivativeHook<'a, E> = dyn FnMut(f64, &[f64], &mut [f64]) -> Result<(), E> + 'a;
+
+/// A refusal, or the error of one of the host's functions.
+#[derive(Clone, Copy, Debug, PartialEq, Eq)]
+pub enum StepError<E> {
+    Solver(Failure),
+    User(E),
+}
+
+impl<E> From<Failure> for StepError<E> {
+    fn from(failure: Failure) -> Self {
+        Self::Solver(failure)
+    }
+}
+
+impl<E: fmt::Display> fmt::Display for StepError<E> {
+    fn fmt(&self, f: &mut fmt::Formatter<'_>) -> fmt::Result {
+        match self {
+            Self::Solver(failure) => failure.fmt(f),
+            Self::User(error) => write!(f, "application evaluation failed: {error}"),
+        }
+    }
+}
+
+impl<E: std::error::Error + 'static> std::error::Error for StepError<E> {
+    fn source(&self) -> Option<&(dyn std::error::Error + 'static)> {
+        match self {
+            Self::Solver(_) => None,
+            Self::User(error) => Some(error),
+        }
+    }
+}
+
+/// An attempted step. At step 0 the stages, the Jacobian and the time partial are empty.
+#[derive(Clone, Copy, Debug)]
+pub struct RosenbrockStepView<'a> {
+    pub previous_state: &'a [f64],
+    pub start_time: f64,
+    pub end_time: f64,
+    pub candidate: &'a [f64],
+    /// For the embedded estimator with btilde.
+    pub component_error: Option<&'a [f64]>,
+    /// Stage after stage, solved.
+    pub solved_stages: &'a [f64],
+    /// The derivatives at the stages, one after the other.
+    pub stage_derivatives: &'a [f64],
+    pub jacobian: &'a [f64],
+    pub time_partial: &'a [f64],
+    pub statistics: StepStatistics,
+    dimension: usize,
+}
+
+impl RosenbrockStepView<'_> {
+    pub fn stage(&self, index: usize) -> Option<&[f64]> {
+        self.row(self.solved_stages, index)
+    }
+
+    pub fn rhs_stage(&self, index: usize) -> Option<&[f64]> {
+        self.row(self.stage_derivatives, index)
+    }
+
+    fn row<'b>(&self, rows: &'b [f64], index: usize) -> Option<&'b [f64]> {
+        let start = index.checked_mul(self.dimension)?;
+        rows.get(start..start.checked_add(self.dimension)?)
+    }
+}
+
+/// A stepper that owns the memory that it lends.
+#[derive(Clone, Debug)]
+pub struct RosenbrockStepper {
+    file: Vec<u8>,
+    record: Record,
+    memory: Memory,
+    /// What the host's functions write.
+    values: Vec<f64>,
+}
+
+impl RosenbrockStepper {
+    /// From a tableau file's bytes.
+    pub fn new(tableau: &[u8], time: f64, state: &[f64]) -> Result<Self, Failure> {
+        Self::with_policy(tableau, TimeDifferencePolicy::default(), time, state)
+    }
+
+    /// The policy is judged where the time partial is probed.
+    pub fn with_policy(
+        tableau: &[u8],
+        policy: TimeDifferencePolicy,
+        time: f64,
+        state: &[f64],
+    ) -> Result<Self, Failure> {
+        let mut memory = Memory::new(state, tableau::stages(tableau));
+        let record = calls::new(tableau, policy.into(), time, memory.lend())?;
+        Ok(Self {
+            file: tableau.to_vec(),
+            record,
+            values: vec![0.0; state.len() * state.len()],
+            memory,
+        })
+    }
+
+    /// The accepted time.
+    pub fn time(&self) -> f64 {
+        self.record.progress.time
+    }
+
+    /// The accepted state.
+    pub fn state(&self) -> &[f64] {
+        &self.memory.state
+    }
+
+    pub fn statistics(&self) -> StepStatistics {
+        self.record.statistics
+    }
+
+    /// The tableau file's bytes.
+    pub fn tableau(&self) -> &[u8] {
+        &self.file
+    }
+
+    /// The derivative at the accepted time and state, if it is cached.
+    pub fn current_derivative(&self) -> Option<&[f64]> {
+        reading::derivative(&self.record, &self.memory)
+    }
+
+    pub fn copy_state_into(&self, output: &mut [f64]) -> Result<(), Failure> {
+        if output.len() != self.memory.state.len() {
+            return Err(Failure::Dimension);
+        }
+        output.copy_from_slice(&self.memory.state);
+        Ok(())
+    }
+
+    /// A Jacobian or a time partial that is not handed over is probed.
+    pub fn attempt<F, E>(
+        &mut self,
+        step: f64,
+        rhs: &mut F,
+        jacobian: Option<&mut DerivativeHook<'_, E>>,
+        time_partial: Option<&mut DerivativeHook<'_, E>>,
+    ) -> Result<RosenbrockStepView<'_>, StepError<E>>
+    where
+        F: FnMut(f64, &[f64], &mut [f64]) -> Result<(), E>,
+    {
+        let modes = modes(&jacobian, &time_partial);
+        let lent = self.memory.lend();
+        let answer = calls::attempt(&mut self.record, &self.file, step, modes, lent);
+        self.attempted(answer, rhs, jacobian, time_partial)
+    }
+
+    /// The proposal cut at the endpoint.
+    pub fn attempt_to<F, E>(
+        &mut self,
+        endpoint: f64,
+        proposal: f64,
+        rhs: &mut F,
+        jacobian: Option<&mut DerivativeHook<'_, E>>,
+        time_partial: Option<&mut DerivativeHook<'_, E>>,
+    ) -> Result<RosenbrockStepView<'_>, StepError<E>>
+    where
+        F: FnMut(f64, &[f64], &mut [f64]) -> Result<(), E>,
+    {
+        let modes = modes(&jacobian, &time_partial);
+        let (record, lent) = (&mut self.record, self.memory.lend());
+        let answer = calls::attempt_to(record, &self.file, endpoint, proposal, modes, lent);
+        self.attempted(answer, rhs, jacobian, time_partial)
+    }
+
+    /// Answers the requests of an attempt up to its end.
+    fn attempted<F, E>(
+        &mut self,
+        mut answer: Answer,
+        rhs: &mut F,
+        mut jacobian: Option<&mut DerivativeHook<'_, E>>,
+        mut time_partial: Option<&mut DerivativeHook<'_, E>>,
+    ) -> Result<RosenbrockStepView<'_>, StepError<E>>
+    where
+        F: FnMut(f64, &[f64], &mut [f64]) -> Result<(), E>,
+    {
+        let open = Open(self);
+        while answer? == Told::Asked {
+            let stepper = &mut *open.0;
+            let request = reading::request(&stepper.record, &stepper.memory).expect("a request");
+            let values = &mut stepper.values[..request.wanted];
+            values.fill(0.0);
+            let (time, state) = (request.time, request.state);
+            let told = match request.ask {
+                Ask::Jacobian => jacobian.as_mut().expect("a Jacobian")(time, state, values),
+                Ask::TimePartial => time_partial.as_mut().expect("a partial")(time, state, values),
+                _ => rhs(time, state, values),
+            };
+            told.map_err(StepError::User)?;
+            let (record, lent) = (&mut stepper.record, stepper.memory.lend());
+            answer = calls::supply(record, &stepper.file, values, lent);
+        }
+        drop(open);
+        Ok(reading::view(&self.record, &self.memory))
+    }
+
+    /// The candidate becomes the accepted state.
+    pub fn accept(&mut self) -> Result<(), Failure> {
+        calls::accept(&mut self.record, self.memory.lend()).map(|_| ())
+    }
+
+    /// The candidate is dropped; derivative, Jacobian and time partial are kept.
+    pub fn reject(&mut self) -> Result<(), Failure> {
+        calls::reject(&mut self.record, self.memory.lend()).map(|_| ())
+    }
+
+    /// Hands over the derivative at the accepted time and state.
+    pub fn inject_derivative(&mut self, derivative: &[f64]) -> Result<(), Failure> {
+        let lent = self.memory.lend();
+        calls::inject_derivative(&mut self.record, derivative, lent).map(|_| ())
+    }
+
+    /// Starts again, with as many components.
+    pub fn reset(&mut self, time: f64, state: &[f64]) -> Result<(), Failure> {
+        calls::reset(&mut self.record, time, state, self.memory.lend()).map(|_| ())
+    }
+}
+
+fn modes<E>(
+    jacobian: &Option<&mut DerivativeHook<'_, E>>,
+    time_partial: &Option<&mut DerivativeHook<'_, E>>,
+) -> Modes {
+    Modes {
+        host_jacobian: jacobian.is_some(),
+        host_time_partial: time_partial.is_some(),
+    }
+}
+
+/// A stepper whose attempt may be open. Where it is left so, by an error or a panic of one of the
+/// host's functions, the failure is reported.
+struct Open<'a>(&'a mut RosenbrockStepper);
+
+impl Drop for Open<'_> {
+    fn drop(&mut self) {
+        if Ask::of(&self.0.record).is_some() {
+            let answer = calls::fail(&mut self.0.record, self.0.memory.lend());
+            debug_assert_eq!(answer, Err(Failure::HostFailure));
+        }
+    }
+}

@@ -1,0 +1,256 @@
+//! The library's calls, one function each, on a record and the memory that is lent with it. Any
+//! record and any lengths may be handed over: what does not fit is refused.
+use crate::Failure;
+use crate::ffi::{self, StepperAnswer};
+
+pub use crate::ffi::{
+    Bounds, Fixed, Memo, Progress, RosenbrockStepper as Record, StepStatistics,
+    TimeDifferencePolicy as Policy,
+};
+
+/// What a call that is not refused answers: the attempt asks for something, shows its step, or
+/// there was nothing to tell.
+#[derive(Clone, Copy, Debug, PartialEq, Eq)]
+pub enum Told {
+    Asked,
+    Shown,
+    Done,
+}
+
+pub type Answer = Result<Told, Failure>;
+
+/// Whether the host supplies it; otherwise it is probed.
+#[derive(Clone, Copy, Debug)]
+pub struct Modes {
+    pub host_jacobian: bool,
+    pub host_time_partial: bool,
+}
+
+/// What is lent to a call.
+#[derive(Debug)]
+pub struct Lent<'a> {
+    pub state: &'a mut [f64],
+    pub work: &'a mut [f64],
+    pub pivots: &'a mut [usize],
+}
+
+/// Memory to lend.
+#[derive(Clone, Debug)]
+pub struct Memory {
+    pub state: Vec<f64>,
+    pub work: Vec<f64>,
+    pub pivots: Vec<usize>,
+}
+
+impl Memory {
+    /// As much as is needed for a state and a number of stages.
+    pub fn new(state: &[f64], stages: usize) -> Self {
+        // a making refuses more than 32 components and 8 stages, whatever is lent
+        let n = state.len().min(33);
+        Self {
+            state: state.to_vec(),
+            work: vec![0.0; needed_work(n, stages.min(9))],
+            pivots: vec![0; n],
+        }
+    }
+
+    pub fn lend(&mut self) -> Lent<'_> {
+        Lent {
+            state: &mut self.state,
+            work: &mut self.work,
+            pivots: &mut self.pivots,
+        }
+    }
+}
+
+/// How many doubles of work are needed for n components and s stages.
+pub fn needed_work(n: usize, s: usize) -> usize {
+    8 * n + 2 * n * n + 2 * s * n
+}
+
+/// Takes over the record that a call hands back.
+fn told(record: &mut Record, answer: StepperAnswer) -> Answer {
+    *record = answer.stepper;
+    match answer.kind {
+        0 => Err(Failure::told(answer.number)),
+        1 => Ok(Told::Asked),
+        2 => Ok(Told::Shown),
+        3 => Ok(Told::Done),
+        kind => panic!("{kind} is no kind of answer"),
+    }
+}
+
+pub fn new(file: &[u8], policy: Policy, time: f64, lent: Lent<'_>) -> Result<Record, Failure> {
+    // SAFETY: the slices' own pointers and lengths; here and below
+    let answer = unsafe {
+        ffi::wiqhano_stepper_new(
+            file.as_ptr(),
+            file.len(),
+            policy,
+            time,
+            lent.state.as_ptr(),
+            lent.state.len(),
+            lent.work.as_mut_ptr(),
+            lent.work.len(),
+            lent.pivots.as_mut_ptr(),
+            lent.pivots.len(),
+        )
+    };
+    Failure::unless_0(answer.number).map(|()| answer.stepper)
+}
+
+pub fn attempt(
+    record: &mut Record,
+    file: &[u8],
+    step: f64,
+    modes: Modes,
+    lent: Lent<'_>,
+) -> Answer {
+    let answer = unsafe {
+        ffi::wiqhano_stepper_attempt(
+            *record,
+            file.as_ptr(),
+            file.len(),
+            step,
+            modes.host_jacobian,
+            modes.host_time_partial,
+            lent.state.as_ptr(),
+            lent.state.len(),
+            lent.work.as_mut_ptr(),
+            lent.work.len(),
+            lent.pivots.as_mut_ptr(),
+            lent.pivots.len(),
+        )
+    };
+    told(record, answer)
+}
+
+pub fn attempt_to(
+    record: &mut Record,
+    file: &[u8],
+    endpoint: f64,
+    proposal: f64,
+    modes: Modes,
+    lent: Lent<'_>,
+) -> Answer {
+    let answer = unsafe {
+        ffi::wiqhano_stepper_attempt_to(
+            *record,
+            file.as_ptr(),
+            file.len(),
+            endpoint,
+            proposal,
+            modes.host_jacobian,
+            modes.host_time_partial,
+            lent.state.as_ptr(),
+            lent.state.len(),
+            lent.work.as_mut_ptr(),
+            lent.work.len(),
+            lent.pivots.as_mut_ptr(),
+            lent.pivots.len(),
+        )
+    };
+    told(record, answer)
+}
+
+/// Supplies what is asked for.
+pub fn supply(record: &mut Record, file: &[u8], values: &[f64], lent: Lent<'_>) -> Answer {
+    let answer = unsafe {
+        ffi::wiqhano_stepper_supply(
+            *record,
+            file.as_ptr(),
+            file.len(),
+            values.as_ptr(),
+            values.len(),
+            lent.state.as_ptr(),
+            lent.state.len(),
+            lent.work.as_mut_ptr(),
+            lent.work.len(),
+            lent.pivots.as_mut_ptr(),
+            lent.pivots.len(),
+        )
+    };
+    told(record, answer)
+}
+
+/// Reports that the host failed to work out what is asked for.
+pub fn fail(record: &mut Record, lent: Lent<'_>) -> Answer {
+    let answer = unsafe {
+        ffi::wiqhano_stepper_fail(
+            *record,
+            lent.state.as_ptr(),
+            lent.state.len(),
+            lent.work.as_ptr(),
+            lent.work.len(),
+            lent.pivots.as_ptr(),
+            lent.pivots.len(),
+        )
+    };
+    told(record, answer)
+}
+
+pub fn accept(record: &mut Record, lent: Lent<'_>) -> Answer {
+    let answer = unsafe {
+        ffi::wiqhano_stepper_accept(
+            *record,
+            lent.state.as_mut_ptr(),
+            lent.state.len(),
+            lent.work.as_ptr(),
+            lent.work.len(),
+            lent.pivots.as_ptr(),
+            lent.pivots.len(),
+        )
+    };
+    told(record, answer)
+}
+
+pub fn reject(record: &mut Record, lent: Lent<'_>) -> Answer {
+    let answer = unsafe {
+        ffi::wiqhano_stepper_reject(
+            *record,
+            lent.state.as_ptr(),
+            lent.state.len(),
+            lent.work.as_ptr(),
+            lent.work.len(),
+            lent.pivots.as_ptr(),
+            lent.pivots.len(),
+        )
+    };
+    told(record, answer)
+}
+
+pub fn inject_derivative(record: &mut Record, derivative: &[f64], lent: Lent<'_>) -> Answer {
+    let answer = unsafe {
+        ffi::wiqhano_stepper_inject_derivative(
+            *record,
+            derivative.as_ptr(),
+            derivative.len(),
+            lent.state.as_ptr(),
+            lent.state.len(),
+            lent.work.as_mut_ptr(),
+            lent.work.len(),
+            lent.pivots.as_ptr(),
+            lent.pivots.len(),
+        )
+    };
+    told(record, answer)
+}
+
+/// `values`: the new accepted state.
+pub fn reset(record: &mut Record, time: f64, values: &[f64], lent: Lent<'_>) -> Answer {
+    let answer = unsafe {
+        ffi::wiqhano_stepper_reset(
+            *record,
+            time,
+            values.as_ptr(),
+            values.len(),
+            lent.state.as_mut_ptr(),
+            lent.state.len(),
+            lent.work.as_mut_ptr(),
+            lent.work.len(),
+            lent.pivots.as_mut_ptr(),
+            lent.pivots.len(),
+        )
+    };
+    told(record, answer)
+}

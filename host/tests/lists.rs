@@ -1,0 +1,124 @@
+//! Whole lists of the stepper's calls beside the original (WIQHANO_ORACLE names the oracle's
+//! program). WIQHANO_SEED sets the seed, WIQHANO_COUNT the answers compared.
+mod oracle;
+
+use oracle::original;
+use std::collections::BTreeMap;
+use wiqhano::lists::{self, List};
+use wiqhano::protocol::Host;
+use wiqhano::random::{self, Random};
+
+fn count() -> usize {
+    let text = std::env::var("WIQHANO_COUNT");
+    text.map_or(200_000, |t| {
+        t.parse().expect("WIQHANO_COUNT is a whole number")
+    })
+}
+
+/// A line of a list, the port's answer, and their class.
+struct Call {
+    list: usize,
+    line: String,
+    port: String,
+    class: String,
+}
+
+/// Lists until there are so many lines. A last `fail` closes an attempt that is open only in the
+/// original, where the port is wrong.
+fn written(random: &mut Random, lines: usize) -> Vec<Call> {
+    let mut host = Host::default();
+    let mut calls = Vec::new();
+    let mut answer = |list: usize, host: &mut Host, line: String| {
+        let before = host.record().copied();
+        let port = host.answer(&line);
+        let class = lists::class(&line, before.as_ref(), host.record(), &port);
+        calls.push(Call {
+            list,
+            line,
+            port,
+            class,
+        });
+        calls.len()
+    };
+    for number in 0.. {
+        let mut list = List::new(random);
+        let mut written = 0;
+        while let Some(line) = list.next(random, &host) {
+            written = answer(number, &mut host, line);
+        }
+        if written >= lines {
+            answer(number, &mut host, "fail".into());
+            break;
+        }
+    }
+    calls
+}
+
+/// The lines that lead to a call, from its list's start.
+fn script(calls: &[Call], at: usize) -> String {
+    let list = calls[..=at].iter().filter(|c| c.list == calls[at].list);
+    let lines: Vec<String> = list.map(|c| format!("  {}", c.line)).collect();
+    lines.join("\n")
+}
+
+#[test]
+fn the_original() {
+    let Ok(oracle) = std::env::var("WIQHANO_ORACLE") else {
+        println!("the original is absent: nothing was compared with it in this run");
+        return;
+    };
+    let (seed, count) = (random::seed(), count());
+    println!("seed {seed}");
+    let mut random = Random::new(seed);
+    let (mut compared, mut differing, mut left_out) = (0, 0, 0);
+    let mut classes: BTreeMap<String, usize> = BTreeMap::new();
+    // by parts, so that not all lines are kept at once
+    while compared < count {
+        let calls = written(&mut random, (count - compared).min(10_000));
+        let answers = original(&oracle, calls.iter().map(|call| &call.line));
+        assert_eq!(answers.len(), calls.len(), "the oracle's answers");
+        for (at, (call, answer)) in calls.iter().zip(&answers).enumerate() {
+            *classes.entry(call.class.clone()).or_insert(0) += 1;
+            // the original cannot be called there
+            let expected = match answer.as_str() {
+                "bad an attempt is open" => "err 18 AttemptOpen",
+                "bad command give" | "bad command fail" => "err 17 NoRequest",
+                answer => answer,
+            };
+            let same = if expected == answer {
+                compared += 1;
+                call.port == *answer
+            } else {
+                left_out += 1;
+                call.port.starts_with(expected)
+            };
+            if !same {
+                differing += 1;
+                if differing <= 10 {
+                    let script = script(&calls, at);
+                    let port = &call.port;
+                    println!("{script}\n  port  {port}\n  other {answer}\n  seed  {seed}");
+                }
+            }
+        }
+    }
+    for (class, met) in &classes {
+        println!("{class}: {met}");
+    }
+    println!("left out, as the original cannot be called there: {left_out}");
+    println!("compared with the original {compared} differing {differing}");
+    assert_eq!(differing, 0);
+    // each kind of answer is met, and there is no other
+    let mut rare = Vec::new();
+    for class in lists::classes() {
+        let met = classes.remove(&class).unwrap_or(0);
+        if met < count / 20_000 {
+            rare.push(format!("{class}: {met}"));
+        }
+    }
+    assert!(rare.is_empty(), "met too seldom, seed {seed}: {rare:?}");
+    assert!(
+        classes.is_empty(),
+        "other answers, seed {seed}: {classes:?}"
+    );
+}
