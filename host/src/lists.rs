@@ -191,7 +191,7 @@ impl List {
             4 => r.pick(&[f64::MAX, -f64::MAX, power(1020), -time]),
             5 => r.subnormal(),
             6 => r.double(),
-            7..20 => power(-(r.below(8) as i64)) * r.sign(),
+            7..20 => power(3 - r.below(11) as i64) * r.sign(),
             _ => (r.unit() + 0.01) * r.sign(),
         }
     }
@@ -333,14 +333,14 @@ fn time(r: &mut Random) -> f64 {
     }
 }
 
-/// Coefficients with zeros of both signs among them.
+/// Coefficients with zeros of both signs among them, and the smallest double.
 fn tableau(r: &mut Random) -> Coefficients {
     let s = 1 + r.below(8) as usize;
     let (s, zeros) = (if r.chance(30) { 1 } else { s }, r.pick(&[0, 20, 60]));
     let some = |r: &mut Random, k: usize| -> Vec<f64> {
         (0..k)
             .map(|_| match r.below(100) {
-                x if x < zeros => r.pick(&[0.0, -0.0]),
+                x if x < zeros => r.pick(&[0.0, -0.0, 0.0, -0.0, power(-1074)]),
                 x if x >= 97 => r.finite(),
                 _ => r.unit() * 4.0 - 2.0,
             })
