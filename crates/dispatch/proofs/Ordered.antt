@@ -3,7 +3,7 @@ use Prim.Native.Nat.{ℕ}
 use mathlib.Core.Path.{_≡_, sym, ap, _∙_}
 use mathlib.Core.List.{List}
 use lib.Ieee.{Float}
-use Rattle.rosenbrock.specs.Stepper.{Call, System, Next, stepped}
+use Rattle.rosenbrock.specs.Stepper.{System, Next, stepped}
 use Rattle.dispatch.specs.declared.Order.{Order}
 use Rattle.dispatch.specs.Orders.{callOf}
 

@@ -9,11 +9,11 @@ use Rattle.rosenbrock.specs.declared.Answer.the-variants.{Asked, Shown, Done, R
 use Rattle.rosenbrock.specs.declared.Outcome.{Outcome}
 use Rattle.rosenbrock.specs.declared.Making.{Making}
 use Rattle.rosenbrock.specs.declared.Making.the-variants as making
-use Rattle.rosenbrock.specs.Answers.{Lent, lending}
+use Rattle.rosenbrock.specs.Answers.{lending}
 use Rattle.rosenbrock.specs.Stepper.{Next}
 use Rattle.rosenbrock.specs.Contracts.{answerBy, nextOf, AfterMaking, madeBy}
 use Rattle.host.specs.declared.StepperAnswer.{StepperAnswer}
-use Rattle.host.specs.Stepper.{ofAnswer, ofOutcome, StepHanded, stepHanded, inNumbers, asNumbers, blankStepper, makingHanded, ofMade, makingAsNumbers}
+use Rattle.host.specs.Stepper.{ofAnswer, ofOutcome, stepHanded, inNumbers, asNumbers, blankStepper, makingHanded, ofMade, makingAsNumbers}
 
 module _ (state work : List Float) (pivots : List ℕ) where
   by-answer : (y : RosenbrockStepper) (a : code.Answer) → stepHanded (ofAnswer y a) (lending state work pivots) ≡ asNumbers (nextOf (record { stepper = y; answer = a }) state work pivots)

@@ -1,16 +1,13 @@
 -- What is handed to the host for each answer of the stepper: the record, a number for the kind of answer and the number of a refusal. Definitions only.
-use Prim.Native.Nat.{ℕ}
 use mathlib.Core.Bool.{false}
-use lib.Ieee.{Float}
 use Rattle.float.specs.Operators.{𝟎}
-use Rattle.attempts.specs.Marks.{blank}
 use Rattle.rosenbrock.specs.declared.RosenbrockStepper.{RosenbrockStepper}
 use Rattle.rosenbrock.specs.declared.Answer as code
 use Rattle.rosenbrock.specs.declared.Answer.the-variants.{Asked, Shown, Done, Refused}
 use Rattle.rosenbrock.specs.declared.Outcome.{Outcome}
 use Rattle.rosenbrock.specs.Answers.{Lent, Answer, refused, asked, shown, told, done}
 use Rattle.rosenbrock.specs.Calls.{fresh}
-use Rattle.rosenbrock.specs.Stepper.{System, Next, Made, not-made, made, noStatistics}
+use Rattle.rosenbrock.specs.Stepper.{Next, Made, not-made, made, noStatistics}
 use Rattle.rosenbrock.specs.Contracts.{AfterMaking}
 use Rattle.host.specs.declared.StepperAnswer.{StepperAnswer}
 use Rattle.host.specs.declared.MakingAnswer.{MakingAnswer}

@@ -1,5 +1,5 @@
 -- `differentiation::quotients` meets its contract: the rows passed are written. Assumes nothing.
-use Prim.Native.Nat.{ℕ, _+_, _*_, _-_, _≤_, _<_}
+use Prim.Native.Nat.{_+_, _*_, _-_, _≤_, _<_}
 use native.Mathlib.Omega.{arith}
 use mathlib.Core.Path.{_≡_, refl, ap, _∙_}
 use mathlib.Core.Logic.{inl}
@@ -13,8 +13,6 @@ use Rattle.stages.specs.Memory.{component}
 use Rattle.differentiation.specs.Differences.{quotient}
 use Rattle.differentiation.proofs.quotients.Statement.{statement}
 use Rattle.differentiation.proofs.quotients.Tie as tie
-use Rattle.differentiation.proofs.quotients.Reads as reads
-use Rattle.differentiation.proofs.quotients.Lts as lts
 
 abbrev Inv-loop : tie.InvT-loop
 Inv-loop work₀ to n k probed base by row₀ work row =
