@@ -7,9 +7,9 @@ pub mod Readers
 pub mod Fitting
 pub mod Passed
 pub mod Lines
+pub mod Tested
 mod Files
 mod Shapes
-mod Tested
 mod Nexts
 mod Makings
 mod Stops

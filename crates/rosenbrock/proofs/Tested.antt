@@ -113,7 +113,7 @@ module _ (time step : Float) {r : Checked} (e : r ≡ checkedTime time step) whe
 -- ---- what answers a request, by its number
 
 -- from 8 on a stage is asked
-asks-stage : (request stage : ℕ) → 8 ≤ request → Stage stage ≡ askOf request stage
+pub asks-stage : (request stage : ℕ) → 8 ≤ request → Stage stage ≡ askOf request stage
 unfolding askOf
 asks-stage request stage h =
     no _ (ne-eqb request 2 (λ e. omega arith))

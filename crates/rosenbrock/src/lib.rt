@@ -136,7 +136,7 @@ fn request_fits(n: usize, s: usize, request: u32, stage: usize) -> bool
 }
 
 // 1 where the record's numbers and the lent lengths do not fit each other, and 0 where they do.
-fn fit_refusal(
+pub fn fit_refusal(
     n: usize,
     s: usize,
     request: u32,
@@ -404,8 +404,8 @@ fn settled(fixed: Fixed, progress: Progress, statistics: StepStatistics, stop: S
 
 // ---- each call's tests
 
-// accept and reject: 1, 18, 15.
-fn decision_refusal(
+// accept, reject and the readers of a step: 1, 18, 15.
+pub fn decision_refusal(
     fixed: Fixed,
     progress: Progress,
     state: usize,
@@ -436,8 +436,14 @@ fn decision_refusal(
     0
 }
 
-// fail: 1, 17.
-fn fail_refusal(fixed: Fixed, progress: Progress, state: usize, work: usize, pivots: usize) -> u32
+// fail and the reader of the request: 1, 17.
+pub fn fail_refusal(
+    fixed: Fixed,
+    progress: Progress,
+    state: usize,
+    work: usize,
+    pivots: usize,
+) -> u32
     ensures { λ r. ⌜ r ≡ firstOf (lentTests fixed progress state work pivots ++ (requestTest progress ∷ [])) ⌝ }
 {
     let request = progress.request;
