@@ -208,8 +208,8 @@ impl ControllerState {
         ensures { λ r. ⌜ r ≡ validErrors (self .«accepted_errors») ⌝ }
     {
         let errors = self.accepted_errors;
-        let recent = float::is_finite_positive(errors[0]);
+        let latest = float::is_finite_positive(errors[0]);
         let older = float::is_finite_positive(errors[1]);
-        both(recent, older)
+        both(latest, older)
     }
 }
