@@ -1,4 +1,3 @@
--- Laws that the functions' proofs cite. `Starred` and `Choice` have the theorems.
+-- Laws that the functions' proofs cite. `Choice` has the theorems.
 mod Answers
-pub mod Starred
 pub mod Choice

@@ -1,5 +1,5 @@
--- Laws that dependents may cite, the ends and the starred case.
+-- Laws that dependents may cite, and the ends.
 pub mod Rows
 pub mod Answers
 pub mod Ends
-pub mod Starred
+pub mod Edges

@@ -10,5 +10,4 @@ pub mod Outcomes
 pub mod Substitutions
 pub mod Triangular
 pub mod Regular
-pub mod Starred
 pub mod Lengths

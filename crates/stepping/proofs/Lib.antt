@@ -1,5 +1,4 @@
 -- Laws that dependents may cite.
 pub mod Answers
 pub mod Refusals
-pub mod Starred
 pub mod Dimension

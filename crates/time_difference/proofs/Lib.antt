@@ -1,5 +1,4 @@
--- Laws that the proofs cite, and the starred case.
+-- Laws that the proofs cite.
 mod Neighbours
 mod Turns
 pub mod Choice
-pub mod Starred

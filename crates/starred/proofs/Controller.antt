@@ -1,18 +1,20 @@
--- Two of the cases tried at the edge, for all that they leave open: settings, history and product. Assumes nothing.
--- 9: error 1, a step above the minimum: accepted only with accept_equal.
--- 10: an infinite error, step 1, factors 0.2 to 5, caps above 0.2, steps 0 to 10: rejected, the next step 0.2.
+-- ★9 and ★10, for all that their lines leave open, and that what they ask for is met by some controller. Assumes nothing.
 use Prim.Native.Nat.{ℕ}
 use native.Mathlib.Omega.{arith}
 use mathlib.Core.Path.{_≡_, refl, sym, ap, _∙_}
-use mathlib.Core.Bool.{Bool, true, false, not, _&&_, _||_, cond, false≢true}
+use mathlib.Core.Bool.{Bool, true, false, not, _&&_, _||_, cond, false≢true, true≢false}
 use mathlib.Core.List.{[], _∷_}
+use mathlib.Core.Logic.{_⊎_, inl, inr}
 use lib.Dec.{eqb, ltb}
-use lib.Ieee.{Float, inf, binary64, round, ofBits, isNan, lt, le, eq, ne, mul}
+use lib.IntN.{pos}
+use lib.Ieee.{Float, nan, inf, fin, round, ofBits, isNan, lt, le, eq, ne, mul, neg}
+use lib.Ieee.Scale.{finite}
 use Rattle.float.specs.Operators.{_⊗_, 𝟎, 𝟏}
+use Rattle.float.specs.Constants.{half}
 use Rattle.float.specs.Methods.{abs, minNum, signum, finitePositive}
 use Rattle.float.proofs.Cases.{no, and-no-right, both}
 use Rattle.float.proofs.Order.{lt-not-le, lt-not-gt}
-use Rattle.stepping.specs.Refusals.{firstOf, unlessRefused}
+use Rattle.stepping.specs.Refusals.{configuration, minimumStep, _when_, firstOf, unlessRefused}
 use Rattle.stepping.proofs.Refusals.{later, none, is-answered}
 use Rattle.settings.specs.declared.ControllerConfig.{ControllerConfig}
 use Rattle.settings.specs.declared.ControllerState.{ControllerState}
@@ -20,10 +22,11 @@ use Rattle.settings.specs.Constants.{fifth, ten}
 use Rattle.settings.specs.Valid.{fraction, validExponents, validFactors, validSteps, validErrors, validHistory, validLimits, validSettings}
 use Rattle.proposal.specs.declared.StepDecision.{StepDecision}
 use Rattle.proposal.specs.Rules.{withinTolerance, atMinimum, isForced, isAccepted, startFactor, atLeast, atMost, lowerFactor, upperFactor, rejectionCap, repeatedCap, capAfterRejection, factor, upperStep, limited, nextStep, decision}
 use Rattle.controller.specs.declared.AdaptiveController.{AdaptiveController}
 use Rattle.controller.specs.declared.Assessment.the-variants.{Decision, Refused, MinimumStep}
-use Rattle.controller.specs.Assess.{sound, usable, measured, exhausted, stuck, assessTests, refused, assessment, rejectedState, advanced, controllerOf, after, assess}
+use Rattle.controller.specs.Assess.{sound, usable, measured, exhausted, stuck, assessTests, refused, assessment, acceptedState, rejectedState, advanced, controllerOf, after, assess}
 use Rattle.controller.specs.Calls.{fresh}
+use Rattle.starred.specs.Table.{five, decided, rejecting, Ninth, Tenth}
 
 -- ---- at a step above the minimum nothing is forced, and a shorter step is allowed
 module _ (c : ControllerConfig) (h : Float) (above : lt (c .«minimum_step») (abs h) ≡ true) where
@@ -70,41 +73,49 @@ module _ (k : AdaptiveController) (h p : Float) (above : lt (k .config .«minimu
   abbrev D : StepDecision
   D = decision (k .config) (k .state) h 𝟏 p
 
-  at-one : D .accepted ≡ k .config .«accept_equal»
-  unfolding decision
+  abbrev next : Float
+  next = nextStep (k .config) (k .state) h 𝟏 p
+
+  abbrev equal : Bool
+  equal = k .config .«accept_equal»
+
+  at-one : isAccepted (k .config) h 𝟏 ≡ equal
   at-one = plainly (k .config) h above 𝟏 ∙ one-within (k .config)
 
-  at-one-unforced : D .forced ≡ false
+  decision-9 : D ≡ decided equal next
   unfolding decision
-  at-one-unforced = unforced (k .config) h above 𝟏
+  decision-9 = λ i. record { accepted = at-one i; forced = unforced (k .config) h above 𝟏 i; «next_step» = next }
 
-  -- every decision accepts just where accept_equal is set, and is not forced
-  pub star-9 : (d : StepDecision) → assessment k h 𝟏 p ≡ Decision d → (d .accepted ≡ k .config .«accept_equal») × (d .forced ≡ false)
-  unfolding assessment unlessRefused
-  star-9 d e =
+  only-9 : (d : StepDecision) → assess k h 𝟏 p .answer ≡ Decision d → (d .accepted ≡ equal) × (d .forced ≡ false)
+  unfolding assess assessment unlessRefused
+  only-9 d e =
       let n = firstOf (assessTests k h 𝟏 D) in
-      let q = the-decision (eqb n 0) n 𝟏 D d e in
-      (ap (λ (x : StepDecision). x .accepted) (sym q) ∙ at-one, ap (λ (x : StepDecision). x .forced) (sym q) ∙ at-one-unforced)
+      let q = sym (the-decision (eqb n 0) n 𝟏 D d e) ∙ decision-9 in
+      (ap (λ (x : StepDecision). x .accepted) q, ap (λ (x : StepDecision). x .forced) q)
 
-  -- and with accept_equal there is such a decision, where the next step is finite and not 0
-  pub star-9-accepts : sound k ≡ true → usable h ≡ true → k .config .«accept_equal» ≡ true → usable (D .«next_step») ≡ true → assessment k h 𝟏 p ≡ Decision D
-  unfolding assessment measured stuck
-  star-9-accepts s u a n =
-      sym (is-answered (refused 𝟏)
-      (later 7 _ (ap not s) (later 7 _ (ap not (both u one-above-0)) (later 16 _ (unexhausted (k .config) h above 𝟏) (later 7 _ (ap not n) (later 16 [] (ap (λ (b : Bool). not b && le (abs h) (abs (D .«next_step»))) (at-one ∙ a)) none))))) refl)
-    where
-      one-above-0 : le 𝟎 𝟏 ≡ true
-      one-above-0 = unfold le lt eq ofBits in refl
+  one-above-0 : le 𝟎 𝟏 ≡ true
+  unfolding le lt eq ofBits
+  one-above-0 = refl
+
+  -- the first three tests are passed
+  tests-9 : sound k ≡ true → usable h ≡ true
+      → firstOf (assessTests k h 𝟏 (decided equal next)) ≡ firstOf ((configuration when not (usable next)) ∷ (minimumStep when not equal && le (abs h) (abs next)) ∷ [])
+  unfolding measured stuck
+  tests-9 s u = later 7 _ (ap not s) (later 7 _ (ap not (both u one-above-0)) (later 16 _ (unexhausted (k .config) h above 𝟏) refl))
+
+  answers-9 : sound k ≡ true → usable h ≡ true
+      → assess k h 𝟏 p .answer ≡ unlessRefused (refused 𝟏)
+      (firstOf ((configuration when not (usable next)) ∷ (minimumStep when not equal && le (abs h) (abs next)) ∷ []))
+      (Decision (decided equal next))
+  unfolding assess assessment
+  answers-9 s u =
+      ap (λ (d : StepDecision). unlessRefused (refused 𝟏) (firstOf (assessTests k h 𝟏 d)) (Decision d)) decision-9
+      ∙ ap (λ (n : ℕ). unlessRefused (refused 𝟏) n (Decision (decided equal next))) (tests-9 s u)
+
+  pub star-9 : Ninth k h p
+  star-9 = record { only = only-9; answers = answers-9 }
 
 -- ---- an infinite error
-pub record Tenth (c : ControllerConfig) : Type 0 where
-  pub least : c .«minimum_factor» ≡ fifth
-  pub most : c .«maximum_factor» ≡ ofBits binary64 0x4014_0000_0000_0000
-  pub cap : lt fifth (c .«rejection_maximum») ≡ true
-  pub repeated : c .«has_repeated_rejection_maximum» ≡ true → lt fifth (c .«repeated_rejection_maximum») ≡ true
-  pub low : c .«minimum_step» ≡ 𝟎
-  pub high : c .«maximum_step» ≡ ten
-
 fifth-number : isNan fifth ≡ false
 unfolding isNan ofBits
 fifth-number = refl
@@ -124,22 +135,42 @@ infinite-within c = go (c .«accept_equal»)
     go true = refl
     go false = refl
 
+-- a minimum step of either zero is below 1, and 0.2 is not below it
+zero-either : (x : Float) → abs x ≡ 𝟎 → (x ≡ fin false 0 (pos 0)) ⊎ (x ≡ fin true 0 (pos 0))
+unfolding abs isNan neg ofBits
+zero-either nan e = absurd (true≢false (ap isNan e))
+zero-either (inf s) e = absurd (false≢true (ap finite e))
+zero-either (fin false m d) e = inl e
+zero-either (fin true m d) e = inr (ap neg e)
+
 -- the rules at 0.2
 kept : (lo : Float) → lo ≡ fifth → atLeast lo fifth ≡ fifth
 unfolding atLeast lt ofBits
 kept lo e = ap (λ (l : Float). atLeast l fifth) e
 
-kept-under : (hi : Float) → hi ≡ ofBits binary64 0x4014_0000_0000_0000 → atMost hi fifth ≡ fifth
+kept-under : (hi : Float) → hi ≡ five → atMost hi fifth ≡ fifth
 unfolding atMost lt ofBits
 kept-under hi e = ap (λ (l : Float). atMost l fifth) e
 
-kept-above : (lo : Float) → lo ≡ 𝟎 → atLeast lo fifth ≡ fifth
+kept-above : (lo : Float) → abs lo ≡ 𝟎 → atLeast lo fifth ≡ fifth
 unfolding atLeast lt ofBits
-kept-above lo e = ap (λ (l : Float). atLeast l fifth) e
+kept-above lo e = go (zero-either lo e)
+  where
+    go : (lo ≡ fin false 0 (pos 0)) ⊎ (lo ≡ fin true 0 (pos 0)) → atLeast lo fifth ≡ fifth
+    go (inl q) = ap (λ (l : Float). atLeast l fifth) q
+    go (inr q) = ap (λ (l : Float). atLeast l fifth) q
 
 kept-below : (hi : Float) → hi ≡ ten → atMost hi fifth ≡ fifth
 unfolding atMost lt ofBits
 kept-below hi e = ap (λ (l : Float). atMost l fifth) e
+
+one-above : (lo : Float) → abs lo ≡ 𝟎 → lt lo (abs 𝟏) ≡ true
+unfolding lt abs ofBits
+one-above lo e = go (zero-either lo e)
+  where
+    go : (lo ≡ fin false 0 (pos 0)) ⊎ (lo ≡ fin true 0 (pos 0)) → lt lo (abs 𝟏) ≡ true
+    go (inl q) = ap (λ (l : Float). lt l (abs 𝟏)) q
+    go (inr q) = ap (λ (l : Float). lt l (abs 𝟏)) q
 
 scaled : abs 𝟏 ⊗ fifth ≡ fifth
 unfolding mul round abs ofBits
@@ -157,17 +188,13 @@ fifth-shorter : le (abs 𝟏) (abs fifth) ≡ false
 unfolding le lt eq abs ofBits
 fifth-shorter = refl
 
-one-above : lt 𝟎 (abs 𝟏) ≡ true
-unfolding lt abs ofBits
-one-above = refl
-
 infinite-measured : measured 𝟏 (inf false) ≡ true
 unfolding measured usable ne le lt eq ofBits
 infinite-measured = refl
 
 twice : (c : ControllerConfig) (s : ControllerState) → Tenth c → repeatedCap c s false fifth ≡ fifth
 unfolding repeatedCap
-twice c s t = go (ltb 0 (s .«consecutive_rejections»)) (c .«has_repeated_rejection_maximum») (t .repeated)
+twice c s t = go (ltb 0 (s .«consecutive_rejections»)) (c .«has_repeated_rejection_maximum») (t .repeated-cap)
   where
     go : (x y : Bool) → (y ≡ true → lt fifth (c .«repeated_rejection_maximum») ≡ true) → cond x (cond y (minNum fifth (c .«repeated_rejection_maximum»)) fifth) fifth ≡ fifth
     go true true h = uncapped (c .«repeated_rejection_maximum») (h refl)
@@ -186,15 +213,15 @@ factor-10 : (c : ControllerConfig) (s : ControllerState) (p : Float) → Tenth c
 unfolding factor
 factor-10 c s p t =
     last c s _
-    ∙ ap (λ (x : Float). repeatedCap c s false (rejectionCap c false (upperFactor c (lowerFactor c x)))) (infinite-start c p ∙ t .least)
-    ∙ ap (λ (x : Float). repeatedCap c s false (rejectionCap c false (upperFactor c x))) (kept (c .«minimum_factor») (t .least))
-    ∙ ap (λ (x : Float). repeatedCap c s false (rejectionCap c false x)) (kept-under (c .«maximum_factor») (t .most))
+    ∙ ap (λ (x : Float). repeatedCap c s false (rejectionCap c false (upperFactor c (lowerFactor c x)))) (infinite-start c p ∙ t .least-factor)
+    ∙ ap (λ (x : Float). repeatedCap c s false (rejectionCap c false (upperFactor c x))) (kept (c .«minimum_factor») (t .least-factor))
+    ∙ ap (λ (x : Float). repeatedCap c s false (rejectionCap c false x)) (kept-under (c .«maximum_factor») (t .largest-factor))
     ∙ ap (repeatedCap c s false) (once c t)
     ∙ twice c s t
 
-module _ (k : AdaptiveController) (p : Float) (t : Tenth (k .config)) where
+module _ (k : AdaptiveController) (p : Float) (s : sound k ≡ true) (t : Tenth (k .config)) where
   above-10 : lt (k .config .«minimum_step») (abs 𝟏) ≡ true
-  above-10 = ap (λ (l : Float). lt l (abs 𝟏)) (t .low) ∙ one-above
+  above-10 = one-above (k .config .«minimum_step») (t .least-step)
 
   rejected-10 : isAccepted (k .config) 𝟏 (inf false) ≡ false
   rejected-10 = plainly (k .config) 𝟏 above-10 (inf false) ∙ infinite-within (k .config)
@@ -206,38 +233,33 @@ module _ (k : AdaptiveController) (p : Float) (t : Tenth (k .config)) where
       ap (λ (b : Bool). limited c 𝟏 (abs 𝟏 ⊗ factor c (k .state) b (inf false) p)) rejected-10
       ∙ ap (λ (x : Float). limited c 𝟏 (abs 𝟏 ⊗ x)) (factor-10 c (k .state) p t)
       ∙ ap (limited c 𝟏) scaled
-      ∙ ap (λ (x : Float). signum 𝟏 ⊗ upperStep c x) (kept-above (c .«minimum_step») (t .low))
-      ∙ ap (λ (x : Float). signum 𝟏 ⊗ x) (kept-below (c .«maximum_step») (t .high))
+      ∙ ap (λ (x : Float). signum 𝟏 ⊗ upperStep c x) (kept-above (c .«minimum_step») (t .least-step))
+      ∙ ap (λ (x : Float). signum 𝟏 ⊗ x) (kept-below (c .«maximum_step») (t .largest-step))
       ∙ signed
 
-  abbrev pub Rejected : StepDecision
-  Rejected = record { accepted = false; forced = false; «next_step» = fifth }
-
-  decision-10 : decision (k .config) (k .state) 𝟏 (inf false) p ≡ Rejected
+  decision-10 : decision (k .config) (k .state) 𝟏 (inf false) p ≡ decided false fifth
   unfolding decision
   decision-10 = λ i. record { accepted = rejected-10 i; forced = unforced (k .config) 𝟏 above-10 (inf false) i; «next_step» = next-10 i }
 
-  module _ (s : sound k ≡ true) where
-    answer-10 : assessment k 𝟏 (inf false) p ≡ Decision Rejected
-    unfolding assessment stuck
-    answer-10 =
-        ap (λ (d : StepDecision). unlessRefused (refused (inf false)) (firstOf (assessTests k 𝟏 (inf false) d)) (Decision d)) decision-10
-        ∙ sym (is-answered (refused (inf false))
-        (later 7 _ (ap not s) (later 7 _ (ap not infinite-measured) (later 16 _ (unexhausted (k .config) 𝟏 above-10 (inf false)) (later 7 _ (ap not fifth-usable) (later 16 [] fifth-shorter none))))) refl)
+  answer-10 : assessment k 𝟏 (inf false) p ≡ Decision (decided false fifth)
+  unfolding assessment stuck
+  answer-10 =
+      ap (λ (d : StepDecision). unlessRefused (refused (inf false)) (firstOf (assessTests k 𝟏 (inf false) d)) (Decision d)) decision-10
+      ∙ sym (is-answered (refused (inf false))
+      (later 7 _ (ap not s) (later 7 _ (ap not infinite-measured) (later 16 _ (unexhausted (k .config) 𝟏 above-10 (inf false)) (later 7 _ (ap not fifth-usable) (later 16 [] fifth-shorter none))))) refl)
 
-    -- the state counts one rejection more, and its next step is 0.2
-    pub star-10 : assess k 𝟏 (inf false) p ≡ record { controller = controllerOf (k .config) (rejectedState (k .state) fifth); answer = Decision Rejected }
-    unfolding assess after advanced
-    star-10 = λ i. record { controller = after k (inf false) (answer-10 i); answer = answer-10 i }
+  pub star-10 : assess k 𝟏 (inf false) p ≡ rejecting k fifth
+  unfolding assess after advanced
+  star-10 = λ i. record { controller = after k (inf false) (answer-10 i); answer = answer-10 i }
 
--- ---- such a controller exists
-abbrev some-config : ControllerConfig
-some-config =
+-- ---- what the two rows ask for is met, and ★9 decides either way
+abbrev some-config : Bool → ControllerConfig
+some-config equal =
     record {
       beta = 𝟏 ∷ 𝟎 ∷ 𝟎 ∷ [];
       safety = 𝟏;
       «minimum_factor» = fifth;
-      «maximum_factor» = ofBits binary64 0x4014_0000_0000_0000;
+      «maximum_factor» = five;
       «rejection_maximum» = 𝟏;
       «rejected_acceptance_maximum» = 𝟏;
       «minimum_step» = 𝟎;
@@ -245,17 +267,27 @@ some-config =
       «force_accept» = true;
       «initial_error_history» = 𝟏 ∷ 𝟏 ∷ [];
       «error_history_floor» = fifth;
-      «accept_equal» = true;
+      «accept_equal» = equal;
       «has_rejection_exponent» = false;
       «rejection_exponent» = 𝟎;
       «has_repeated_rejection_maximum» = false;
       «repeated_rejection_maximum» = 𝟎;
     }
 
-pub some-sound : sound (fresh some-config 𝟏) ≡ true
-unfolding sound fresh controllerOf validSettings validExponents validLimits validFactors validSteps validErrors validHistory finitePositive fraction lt le eq ofBits
-some-sound = refl
+abbrev pub some : Bool → AdaptiveController
+some equal = fresh (some-config equal) 𝟏
 
-pub some-tenth : Tenth some-config
-unfolding lt ofBits
-some-tenth = record { least = refl; most = refl; cap = refl; repeated = λ h. absurd (false≢true h); low = refl; high = refl }
+pub some-sound : (equal : Bool) → sound (some equal) ≡ true
+unfolding sound fresh controllerOf validSettings validExponents validLimits validFactors validSteps validErrors validHistory finitePositive fraction lt le eq ofBits
+some-sound equal = refl
+
+pub some-tenth : (equal : Bool) → Tenth (some equal .config)
+unfolding fresh controllerOf lt abs ofBits
+some-tenth equal =
+    record { least-factor = refl; largest-factor = refl; cap = refl; repeated-cap = λ h. absurd (false≢true h); least-step = refl; largest-step = refl }
+
+-- error 1 at step 1 with the product 1 / 2
+pub some-ninth : (equal : Bool) → assess (some equal) 𝟏 𝟏 half .answer ≡ Decision (decided equal half)
+unfolding assess assessment measured usable exhausted stuck sound fresh controllerOf unlessRefused firstOf decision nextStep limited factor startFactor atLeast atMost rejectionCap repeatedCap capAfterRejection isAccepted isForced withinTolerance atMinimum validSettings validExponents validLimits validFactors validSteps validErrors validHistory finitePositive fraction abs signum isNan lt le eq ne mul round ofBits
+some-ninth true = refl
+some-ninth false = refl

@@ -1,4 +1,4 @@
--- The starred case of the segment, ★8, in both directions of time, and no components and 33, by computation. Assumes nothing.
+-- Closed cases of the segment, by computation: backward in time, no components and 33, and an output of no places. Assumes nothing.
 use mathlib.Core.Path.{_≡_, refl}
 use mathlib.Core.Bool.{false}
 use mathlib.Core.List.{List, [], _∷_}
@@ -26,15 +26,10 @@ three = fin false 3 (pos 0)
 abbrev four : Float
 four = fin false 1 (pos 2)
 
--- whatever the output held
-pub star-8 : (x : Float) → interpolate (segment zero two (one ∷ []) (three ∷ []) (two ∷ four ∷ []) 2) one (x ∷ []) ≡ outcome 0 (three ∷ [])
+-- from 2 back to 0, whatever the output held
+pub backward : (x : Float) → interpolate (segment two zero (one ∷ []) (three ∷ []) (two ∷ four ∷ []) 2) one (x ∷ []) ≡ outcome 0 (three ∷ [])
 unfolding interpolate timesFit sizesFit numbersFit valid contains theta horner polynomial blend inside component firstOf unlessRefused table every allFinite lt le eq ne add sub mul div ofBits
-star-8 x = refl
-
--- from 2 back to 0
-pub star-8-back : (x : Float) → interpolate (segment two zero (one ∷ []) (three ∷ []) (two ∷ four ∷ []) 2) one (x ∷ []) ≡ outcome 0 (three ∷ [])
-unfolding interpolate timesFit sizesFit numbersFit valid contains theta horner polynomial blend inside component firstOf unlessRefused table every allFinite lt le eq ne add sub mul div ofBits
-star-8-back x = refl
+backward x = refl
 
 -- 10, and the output is as it was
 pub no-components : (c output : List Float) (order : ℕ) → interpolate (segment zero one [] [] c order) zero output ≡ outcome 10 output

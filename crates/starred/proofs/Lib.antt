@@ -1,0 +1,4 @@
+-- The theorem, and what it is put together from.
+mod Closed
+mod Controller
+pub mod Theorem
