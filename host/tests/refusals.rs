@@ -8,10 +8,6 @@ fn answers(script: &str) -> Vec<String> {
     out.lines().map(String::from).collect()
 }
 
-fn ones(n: usize) -> String {
-    format!("[{}]", vec!["=1"; n].join(","))
-}
-
 #[test]
 fn the_norm_refuses_lengths_then_values_then_tolerances() {
     let script = [
@@ -37,31 +33,8 @@ fn the_norm_refuses_lengths_then_values_then_tolerances() {
 }
 
 #[test]
-fn a_dimension_of_33_is_refused_and_32_is_not() {
-    let norm = |n: usize| format!("norm =1e-6 =1e-3 {0} {0} {0}", ones(n));
-    assert!(answers(&norm(32))[0].starts_with("ok "));
-    assert!(answers(&norm(33))[0].starts_with("err 1 "));
-    let first = |n: usize| format!("initial_step {0} {0} {0} =1 =10", ones(n));
-    assert!(answers(&first(32))[0].starts_with("ok "));
-    assert!(answers(&first(33))[0].starts_with("err 1 "));
-    let segment = |n: usize| {
-        let (state, rows) = (ones(n), ones(2 * n));
-        format!("segment =0 =1 {state} {state} {rows} 2 =0.5 {state}")
-    };
-    assert!(answers(&segment(32))[0].starts_with("ok "));
-    assert!(answers(&segment(33))[0].starts_with("err 10 "));
-}
-
-#[test]
-fn factorize_tests_its_dimension_and_solve_its_pivots() {
-    use wiqhano::Failure;
-    use wiqhano::linear::{factorize, solve};
-    for n in [0, 33] {
-        let (mut matrix, mut pivots) = (vec![1.0; n * n], vec![0; n]);
-        let answer = factorize(&mut matrix, &mut pivots, n);
-        assert_eq!(answer.unwrap_err(), Failure::Dimension);
-        assert_eq!(matrix, vec![1.0; n * n]);
-    }
+fn solve_tests_its_pivots() {
+    use wiqhano::linear::solve;
     let mut x = [3.0, 5.0];
     for pivots in [[2, 1], [1, usize::MAX]] {
         let answer = solve(&[1.0, 0.0, 0.0, 1.0], &pivots, &mut x, 2);
