@@ -14,10 +14,12 @@ minus-one = fin true 1 (pos 0)
 abbrev minus-zero : Float
 minus-zero = fin true 0 (pos 0)
 
--- a NaN loses to a number, on either side
-pub max-nan : (maxNum nan one ≡ one) × (maxNum one nan ≡ one) × (minNum nan one ≡ one) × (minNum one nan ≡ one)
+-- a NaN loses, on either side, to every number
+pub max-nan : (x : Float) → (maxNum nan x ≡ x) × (maxNum x nan ≡ x) × (minNum nan x ≡ x) × (minNum x nan ≡ x)
 unfolding isNan lt
-max-nan = (refl, refl, refl, refl)
+max-nan nan = (refl, refl, refl, refl)
+max-nan (inf s) = (refl, refl, refl, refl)
+max-nan (fin s m e) = (refl, refl, refl, refl)
 
 pub max-inf : (maxNum (inf true) one ≡ one) × (minNum (inf true) one ≡ inf true) × (maxNum one (inf false) ≡ inf false)
 unfolding isNan lt

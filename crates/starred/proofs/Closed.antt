@@ -1,19 +1,17 @@
--- The closed cases, ★1 to ★8, by computation. Assumes nothing.
+-- The closed cases, ★1 to ★6 and ★8, by computation. Assumes nothing.
 use mathlib.Core.Path.{refl}
-use lib.Ieee.{isNan, lt, le, eq, ne, add, sub, mul, div, ofInt, ofBits, toBits}
+use lib.Ieee.{isNan, lt, le, eq, ne, add, sub, mul, div, ofInt, ofBits}
 use Rattle.float.specs.Methods.{abs, signum}
 use Rattle.vector.specs.Lists.{table, every, allFinite}
 use Rattle.vector.specs.Parts.{puts}
 use Rattle.vector.specs.Matrices.{rows}
 use Rattle.stepping.specs.Refusals.{firstOf, unlessRefused}
 use Rattle.stepping.specs.Time.{checkedTime, clipped, pointsAway, ifReached, endpointStep}
-use Rattle.time_difference.specs.Probes.{adjacent, firstProbe, secondProbe, missed, placed}
-use Rattle.time_difference.specs.Policy.{defaultPolicy, outOfRange, outside, refusal, endpoint, spacing, probes}
 use Rattle.linear.specs.Elimination.{largest, scale, threshold, unusable, largestRow, stepped, eliminated, stepsDone}
 use Rattle.linear.specs.Calls.{square, eliminationOf, rawOf, factorizeOf}
 use Rattle.dense.specs.Segment.{theta, horner, polynomial, blend, inside, component}
 use Rattle.dense.specs.Interpolation.{timesFit, sizesFit, numbersFit, valid, contains, interpolate}
-use Rattle.starred.specs.Table.{Star-1, Star-2, Star-3, Star-4, Star-5, Star-6, Star-7, Star-8}
+use Rattle.starred.specs.Table.{Star-1, Star-2, Star-3, Star-4, Star-5, Star-6, Star-8}
 
 pub star-1 : Star-1
 unfolding factorizeOf rawOf eliminationOf square firstOf unlessRefused every allFinite scale largest threshold unusable largestRow stepped eliminated stepsDone rows table puts abs isNan lt le eq mul div sub add ofInt ofBits
@@ -39,10 +37,6 @@ star-5 = refl
 pub star-6 : Star-6
 unfolding endpointStep checkedTime clipped pointsAway ifReached firstOf unlessRefused every allFinite abs signum lt eq ne add sub ofBits
 star-6 = refl
-
-pub star-7 : Star-7
-unfolding probes defaultPolicy outOfRange outside refusal endpoint spacing adjacent firstProbe secondProbe missed placed firstOf unlessRefused every allFinite abs signum isNan lt le eq ne add sub mul ofBits toBits
-star-7 = refl
 
 pub star-8 : Star-8
 unfolding interpolate timesFit sizesFit numbersFit valid contains theta horner polynomial blend inside component firstOf unlessRefused table every allFinite lt le eq ne add sub mul div ofBits

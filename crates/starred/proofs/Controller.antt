@@ -24,7 +24,7 @@ use Rattle.proposal.specs.declared.StepDecision.{StepDecision}
 use Rattle.proposal.specs.Rules.{withinTolerance, atMinimum, isForced, isAccepted, startFactor, atLeast, atMost, lowerFactor, upperFactor, rejectionCap, repeatedCap, capAfterRejection, factor, upperStep, limited, nextStep, decision}
 use Rattle.controller.specs.declared.AdaptiveController.{AdaptiveController}
 use Rattle.controller.specs.declared.Assessment.the-variants.{Decision, Refused, MinimumStep}
-use Rattle.controller.specs.Assess.{sound, usable, measured, exhausted, stuck, assessTests, refused, assessment, acceptedState, rejectedState, advanced, controllerOf, after, assess}
+use Rattle.controller.specs.Assess.{sound, usable, measured, exhausted, stuck, assessTests, refused, assessment, advanced, controllerOf, after, assess}
 use Rattle.controller.specs.Calls.{fresh}
 use Rattle.starred.specs.Table.{five, decided, rejecting, Ninth, Tenth}
 

@@ -1,4 +1,5 @@
 -- The theorem, and what it is put together from.
 mod Closed
+mod Probing
 mod Controller
 pub mod Theorem

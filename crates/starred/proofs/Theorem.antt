@@ -1,7 +1,7 @@
--- The starred cases, one theorem; and what ★9 and ★10 ask for is met. Assumes nothing.
-use mathlib.Core.Path.{_≡_}
+-- The starred cases, as one theorem. Assumes nothing.
 use Rattle.starred.specs.Table.{Starred}
 use Rattle.starred.proofs.Closed as closed
+use Rattle.starred.proofs.Probing as probing
 use Rattle.starred.proofs.Controller as controller
 
 pub starred : Starred
@@ -13,7 +13,7 @@ starred =
       star-4 = closed.star-4;
       star-5 = closed.star-5;
       star-6 = closed.star-6;
-      star-7 = closed.star-7;
+      star-7 = probing.star-7;
       star-8 = closed.star-8;
       star-9 = controller.star-9;
       star-10 = controller.star-10;

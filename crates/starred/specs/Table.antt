@@ -8,11 +8,13 @@ use lib.IntN.{pos, negsuc}
 use lib.Ieee.{Float, fin, inf, lt, le}
 use Rattle.float.specs.Operators.{𝟎, 𝟏}
 use Rattle.float.specs.Methods.{abs}
-use Rattle.stepping.specs.Refusals.{configuration, minimumStep, Test, _when_, firstOf, unlessRefused}
+use Rattle.stepping.specs.Refusals.{configuration, minimumStep, _when_, firstOf, unlessRefused}
 use Rattle.stepping.specs.declared.Endpoint.the-variants as endpoint
 use Rattle.stepping.specs.Time.{endpointStep}
 use Rattle.time_difference.specs.declared.Probes.the-variants.{One}
-use Rattle.time_difference.specs.Policy.{defaultPolicy, probes}
+use Rattle.time_difference.specs.declared.TimeDifferencePolicy.{TimeDifferencePolicy}
+use Rattle.time_difference.specs.Policy.{defaultPolicy, refusal, probes}
+use Rattle.time_difference.specs.Policy as policy
 use Rattle.linear.specs.declared.Factorization.the-variants.{Factored, Refused}
 use Rattle.linear.specs.Calls as lu
 use Rattle.dense.specs.Segment.{segment}
@@ -119,9 +121,11 @@ Star-5 = endpointStep zero one minus-one ≡ endpoint.Refused 4
 abbrev pub Star-6 : Type 0
 Star-6 = endpointStep zero zero minus-one ≡ endpoint.Step zero
 
--- ★7 probes at time 0, step 2⁻¹⁰⁷⁴: first 2⁻¹⁰⁷⁴, no second. At the default policy.
+-- ★7 probes at time 0, step 2⁻¹⁰⁷⁴: first 2⁻¹⁰⁷⁴, no second. At every policy that is not refused and has no bound within the step, and the default
+-- policy is one.
 abbrev pub Star-7 : Type 0
-Star-7 = probes defaultPolicy zero 2⁻¹⁰⁷⁴ ≡ One 2⁻¹⁰⁷⁴
+Star-7 = ((p : TimeDifferencePolicy) → refusal p zero 2⁻¹⁰⁷⁴ ≡ 0 → policy.endpoint (p .bounds) 2⁻¹⁰⁷⁴ ≡ 2⁻¹⁰⁷⁴ → probes p zero 2⁻¹⁰⁷⁴ ≡ One 2⁻¹⁰⁷⁴)
+    × (probes defaultPolicy zero 2⁻¹⁰⁷⁴ ≡ One 2⁻¹⁰⁷⁴)
 
 -- ★8 segment 0 to 2, states 1 and 3, corrections 2 and 4, time 1: 3. Whatever the output held.
 abbrev pub Star-8 : Type 0
