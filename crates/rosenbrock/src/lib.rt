@@ -727,7 +727,7 @@ impl RosenbrockStepper {
         let setting = setting_of(fixed, progress);
         let memo = progress.memo;
         let marks = marks_of(memo, true);
-        let stop = attempts::start(setting, file, state, &mut work[..need], pivots, marks);
+        let stop = evaluations::start(setting, file, state, &mut work[..need], pivots, marks);
         settled(fixed, progress, statistics, stop)
     }
 
@@ -846,7 +846,7 @@ impl RosenbrockStepper {
         let setting = setting_of(fixed, progress);
         let marks = marks_of(memo, false);
         let ask = ask_of(request, stage);
-        let stop = attempts::resume(
+        let stop = evaluations::resume(
             setting,
             file,
             state,
