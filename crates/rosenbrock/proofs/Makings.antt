@@ -23,7 +23,7 @@ use Rattle.rosenbrock.specs.Tests.{shapeFits, finiteTest, makingTests}
 use Rattle.rosenbrock.specs.Calls.{fresh, cleared}
 use Rattle.rosenbrock.specs.Stepper as Stepper
 use Rattle.rosenbrock.specs.Stepper.{noStatistics, needed, trimmed, untrimmed, not-made, fixedBy, madeOf, make}
-use Rattle.rosenbrock.specs.Contracts.{newTests, afterMaking, memoryAfter, makingOf, madeBy}
+use Rattle.rosenbrock.specs.Contracts.{lentNewTests, afterMaking, memoryAfter, makingOf, madeBy}
 use Rattle.rosenbrock.proofs.Fitting.{Shape, shape-of}
 use Rattle.rosenbrock.proofs.Files.{checked}
 
@@ -31,7 +31,7 @@ use Rattle.rosenbrock.proofs.Files.{checked}
 
 module _ (file : List ℕ) (time : Float) (state : List Float) (work pivots : ℕ) {r : ℕ} (e : r ≡ check file) where
   abbrev tests : List Test
-  tests = newTests file time state work pivots
+  tests = lentNewTests file time state work pivots
 
   pub file-bad : (r ≡ 0 → ⊥) → 12 ≡ firstOf tests
   file-bad h = sym (here 12 _ (stopped 11 (accepts file) (checked file 0 e) h .0))
@@ -69,7 +69,7 @@ module _ (file : List ℕ) (time : Float) (state : List Float) (work pivots : �
 -- ---- the making
 
 module _ (file : List ℕ) (policy : TimeDifferencePolicy) (time : Float) (state work : List Float) (pivots : List ℕ) {k : ℕ}
-    (e : k ≡ firstOf (newTests file time state (length work) (length pivots))) where
+    (e : k ≡ firstOf (lentNewTests file time state (length work) (length pivots))) where
   abbrev m : Lent
   m = lending state work pivots
 

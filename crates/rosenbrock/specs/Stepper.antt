@@ -101,19 +101,21 @@ pub record Next : Type 0 where
 unfoldable pub result : Call → System → Out
 result c y = let fx = y .stepper .fixed in called fx c (y .stepper .progress) (trimmed (needed fx) (y .lent))
 
--- a call on a stepper: what it leaves, and what it answers
-unfoldable pub stepped : Call → System → Next
-stepped c y =
-    let fx = y .stepper .fixed in
-    let o = result c y in
+-- the record and its memory as a call leaves them
+abbrev pub nextBy : RosenbrockStepper → Lent → Out → Next
+nextBy y m o =
     record {
       system =
           record {
-            stepper = record { fixed = fx; progress = o .progress; statistics = tallied (o .counted) (y .stepper .statistics) };
-            lent = untrimmed (needed fx) (y .lent) (o .lent);
+            stepper = record { fixed = y .fixed; progress = o .progress; statistics = tallied (o .counted) (y .statistics) };
+            lent = untrimmed (needed (y .fixed)) m (o .lent);
           };
       answer = o .answer;
     }
+
+-- a call on a stepper: what it leaves, and what it answers
+unfoldable pub stepped : Call → System → Next
+stepped c y = nextBy (y .stepper) (y .lent) (result c y)
 
 -- ---- the making
 

@@ -74,23 +74,29 @@ pivotsUnfit n pivots SecondProbe = false
 pivotsUnfit n pivots (Column k) = false
 pivotsUnfit n pivots (Stage i) = not (every n (λ k. ltb (getD pivots k 0) n))
 
--- 1, 13: of what is supplied
-abbrev pub valueTests : Fixed → Progress → Lent → List Float → List Test
-valueTests fx x m values =
+-- 1, 13: of what is supplied, from its length
+abbrev pub answerTests : Fixed → Progress → ℕ → List ℕ → List Test
+answerTests fx x values pivots =
     let a = askOf (x .request) (x .stage) in
-    (dimension when not (eqb (length values) (wanted (fx .n) a))) ∷ (pivotRange when pivotsUnfit (fx .n) (m .pivots) a) ∷ []
+    (dimension when not (eqb values (wanted (fx .n) a))) ∷ (pivotRange when pivotsUnfit (fx .n) pivots a) ∷ []
+
+abbrev pub valueTests : Fixed → Progress → Lent → List Float → List Test
+valueTests fx x m values = answerTests fx x (length values) (m .pivots)
 
 -- ---- each call's, in order
 
--- making: 12, 1, 2, 3, for a state of n components and the s stages of the file
-abbrev pub makingTests : List ℕ → Float → Lent → List Test
-makingTests file time m =
+-- making: 12, 1, 2, 3, for a state of n components and the s stages of the file, from the lengths that are lent
+abbrev pub newTests : List ℕ → Float → List Float → ℕ → ℕ → List Test
+newTests file time state work pivots =
     (tableauFile when not (accepts file))
-    ∷ (dimension when not (shapeFits (length (m .state)) (stagesOf (tableauOf file)) (length (m .state)) (length (m .work)) (length (m .pivots))))
-    ∷ finiteTest (m .state)
+    ∷ (dimension when not (shapeFits (length state) (stagesOf (tableauOf file)) (length state) work pivots))
+    ∷ finiteTest state
     ∷ finiteTest (time ∷ [])
     ∷ (unsupportedTableau when eqb (tableauOf file .counts .kind) 1)
     ∷ []
+
+abbrev pub makingTests : List ℕ → Float → Lent → List Test
+makingTests file time m = newTests file time (m .state) (length (m .work)) (length (m .pivots))
 
 -- attempt and attempt_to begin with 1, 12, 3, 1, 18
 abbrev pub attemptTests : Fixed → List ℕ → Progress → Lent → List Test

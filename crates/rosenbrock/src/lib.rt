@@ -8,11 +8,11 @@ ghost use lib.ListN.{length};
 ghost use Rattle.stepping.specs.Refusals.{firstOf};
 ghost use Rattle.stages.specs.Layout.{neededWork};
 ghost use Rattle.rosenbrock.specs.Requests.{askOf, askNumber, askStage, requestAfter, stageAfter, requestFits};
-ghost use Rattle.rosenbrock.specs.Tests.{shapeFits, sizeTests, fileTests, openTest, pendingTest, candidateTest, requestTest, lengthTest, finiteTest, stepTests};
+ghost use Rattle.rosenbrock.specs.Tests.{shapeFits, sizeTests, fileTests, openTest, pendingTest, candidateTest, requestTest, lengthTest, finiteTest, answerTests, stepTests};
 ghost use Rattle.rosenbrock.specs.Answers.{lending};
-ghost use Rattle.rosenbrock.specs.Calls.{memoAccepted, fresh, opening, attemptBy};
-ghost use Rattle.rosenbrock.specs.Stepper.{oneMore, tallied, noStatistics, needed, trimmed, by-value, attempt, attempt-to, supply, fail, accept, reject, inject-derivative, reset, stepped};
-ghost use Rattle.rosenbrock.specs.Contracts.{lentTests, newTests, answerTests, settingBy, marksBy, answerAfter, outcomeAfter, systemOf, nextOf, nextBy, madeBy, makingOf};
+ghost use Rattle.rosenbrock.specs.Calls.{settingBy, memoAccepted, fresh, opening, attemptBy};
+ghost use Rattle.rosenbrock.specs.Stepper.{oneMore, tallied, noStatistics, needed, trimmed, by-value, attempt, attempt-to, supply, fail, accept, reject, inject-derivative, reset, nextBy, stepped};
+ghost use Rattle.rosenbrock.specs.Contracts.{lentTests, lentNewTests, marksBy, answerAfter, outcomeAfter, systemOf, nextOf, madeBy, makingOf};
 use attempts::Ask;
 use attempts::Counted;
 use attempts::Ending;
@@ -626,7 +626,7 @@ fn supply_refusal(
 
 // A making: 12, 1, 2, 2, 3.
 fn making_refusal(file: &[u8], time: f64, state: &[f64], work: usize, pivots: usize) -> u32
-    ensures { λ r. ⌜ r ≡ firstOf (newTests (now (file .entry)) time (now (state .entry)) work pivots) ⌝ }
+    ensures { λ r. ⌜ r ≡ firstOf (lentNewTests (now (file .entry)) time (now (state .entry)) work pivots) ⌝ }
 {
     if tableau::check(file) != 0 {
         return stepping::TABLEAU_FILE;
