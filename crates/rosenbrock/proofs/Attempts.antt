@@ -28,23 +28,23 @@ use Rattle.attempts.specs.declared.Stop.{Stop}
 use Rattle.attempts.specs.Attempt.{Stopped, given, scratch, stopped, wanted, start, resume}
 use Rattle.attempts.specs.Calls.{Sizes, Answers}
 use Rattle.attempts.proofs.Requests.{AskInRange}
-use Rattle.rosenbrock.specs.declared.Fixed.{Fixed}
-use Rattle.rosenbrock.specs.declared.Progress.{Progress}
+use Rattle.refusals.specs.declared.Fixed.{Fixed}
+use Rattle.refusals.specs.declared.Progress.{Progress}
 use Rattle.rosenbrock.specs.declared.RosenbrockStepper.{RosenbrockStepper}
 use Rattle.rosenbrock.specs.declared.Answer.the-variants.{Refused}
 use Rattle.rosenbrock.specs.declared.Outcome.{Outcome}
-use Rattle.rosenbrock.specs.Requests.{askOf, askNumber, askStage, requestAfter, stageAfter}
-use Rattle.rosenbrock.specs.Answers.{Lent, lending, asked, requestOf, answerOf}
-use Rattle.rosenbrock.specs.Tests.{attemptTests, stepTests, supplyTests, fileTests, openTest, requestTest, pivotsUnfit, answerTests}
+use Rattle.refusals.specs.Requests.{askOf, askNumber, askStage, requestAfter, stageAfter}
+use Rattle.refusals.specs.Answers.{Lent, lending, asked, requestOf, answerOf}
+use Rattle.refusals.specs.Tests.{attemptTests, stepTests, supplyTests, fileTests, openTest, requestTest, pivotsUnfit, answerTests, lentTests}
 use Rattle.rosenbrock.specs.Calls.{givenBy, scratchBy, progressAfter, settle, opening, opened, attemptBy, attemptOf, towards, attemptToOf, supplyOf, settingBy}
 use Rattle.rosenbrock.specs.Stepper.{attempt, attempt-to, supply, called, tallied, needed, trimmed, untrimmed, Next, result, stepped, nextBy}
-use Rattle.rosenbrock.specs.Contracts.{systemOf, answerBy, nextOf, lentTests, marksBy, answerAfter, outcomeAfter}
-use Rattle.rosenbrock.proofs.Requests.{read-back, in-range}
-use Rattle.rosenbrock.proofs.Fitting.{Shape, fits-passed}
-use Rattle.rosenbrock.proofs.Passed.{supply-passed, supply-values}
+use Rattle.rosenbrock.specs.Contracts.{systemOf, answerBy, nextOf, marksBy, answerAfter, outcomeAfter}
+use Rattle.refusals.proofs.Requests.{read-back, in-range}
+use Rattle.refusals.proofs.Fitting.{Shape, fits-passed}
+use Rattle.refusals.proofs.Passed.{supply-passed, supply-values}
 use Rattle.rosenbrock.proofs.Lengths.{opened-keeps, resumed-keeps}
-use Rattle.rosenbrock.proofs.Memory.{trim-untrim}
-use Rattle.rosenbrock.proofs.Tested.{cut, fitted, lent-work}
+use Rattle.rosenbrock.proofs.Memory.{trim-untrim, cut}
+use Rattle.refusals.proofs.Tested.{fitted, lent-work}
 use Rattle.rosenbrock.proofs.Nexts.{left, refusal-next, guard-refuses, guard-passes, refused-next, passed-next}
 
 -- the answer is read from the record and the memory

@@ -17,24 +17,24 @@ use Rattle.stages.specs.Layout.{neededWork}
 use Rattle.attempts.specs.declared.Counted.{Counted}
 use Rattle.attempts.specs.declared.Memo.{Memo}
 use Rattle.attempts.specs.Marks.{withCaches, nothingCounted, oneAccepted, oneRejected}
-use Rattle.rosenbrock.specs.declared.Progress.{Progress}
+use Rattle.refusals.specs.declared.Progress.{Progress}
 use Rattle.rosenbrock.specs.declared.StepStatistics.{StepStatistics}
 use Rattle.rosenbrock.specs.declared.RosenbrockStepper.{RosenbrockStepper}
 use Rattle.rosenbrock.specs.declared.Answer.{Answer}
 use Rattle.rosenbrock.specs.declared.Answer.the-variants.{Done, Refused}
 use Rattle.rosenbrock.specs.declared.Outcome.{Outcome}
-use Rattle.rosenbrock.specs.Answers.{Lent, lending, refused, candidateOf}
-use Rattle.rosenbrock.specs.Answers as Answers
-use Rattle.rosenbrock.specs.Tests.{decisionTests, failTests, injectTests, resetTests, openTest, pendingTest, candidateTest, requestTest, lengthTest, finiteTest}
+use Rattle.refusals.specs.Answers.{Lent, lending, refused, candidateOf}
+use Rattle.refusals.specs.Answers as Answers
+use Rattle.refusals.specs.Tests.{decisionTests, failTests, injectTests, resetTests, openTest, pendingTest, candidateTest, requestTest, lengthTest, finiteTest, lentTests}
 use Rattle.rosenbrock.specs.Calls.{Out, refusal, guarded, progressAfter, memoAccepted, accepted, acceptOf, rejected, rejectOf, failed, failOf, injected, injectOf, fresh, cleared, restarted, resetOf}
 use Rattle.rosenbrock.specs.Stepper.{Call, by-value, accept, reject, fail, inject-derivative, reset, called, oneMore, tallied, needed, trimmed, untrimmed, result, stepped, nextBy}
-use Rattle.rosenbrock.specs.Contracts.{systemOf, answerBy, nextOf, lentTests}
+use Rattle.rosenbrock.specs.Contracts.{systemOf, answerBy, nextOf}
 use Rattle.rosenbrock.proofs.Guards.{guarded-passed}
 use Rattle.rosenbrock.proofs.Readers.{untrimmed-same}
-use Rattle.rosenbrock.proofs.Memory.{puts-front}
-use Rattle.rosenbrock.proofs.Tested.{cut, fitted, lent-work, vectors-in}
-use Rattle.rosenbrock.proofs.Fitting.{Shape}
-use Rattle.rosenbrock.proofs.Passed.{inject-size, reset-passed}
+use Rattle.rosenbrock.proofs.Memory.{puts-front, cut}
+use Rattle.refusals.proofs.Tested.{fitted, lent-work, vectors-in}
+use Rattle.refusals.proofs.Fitting.{Shape}
+use Rattle.refusals.proofs.Passed.{inject-size, reset-passed}
 
 -- what the code hands back: the record as it was fixed, with what was moved
 abbrev pub left : RosenbrockStepper → Progress → StepStatistics → Answer → Outcome

@@ -19,11 +19,11 @@ use Rattle.attempts.specs.declared.Memo.{Memo}
 use Rattle.attempts.specs.declared.Counted.{Counted}
 use Rattle.attempts.specs.Marks.{blank, withCaches, nothingCounted, oneAttempt, oneAccepted, oneRejected}
 use Rattle.attempts.specs.Attempt.{Given, given, Scratch, scratch, Stopped, start, resume}
-use Rattle.rosenbrock.specs.declared.Fixed.{Fixed}
-use Rattle.rosenbrock.specs.declared.Progress.{Progress}
-use Rattle.rosenbrock.specs.Requests.{askOf, requestAfter, stageAfter}
-use Rattle.rosenbrock.specs.Answers.{Lent, lending, Answer, refused, done, candidateOf, answerOf}
-use Rattle.rosenbrock.specs.Tests.{attemptTests, stepTests, supplyTests, failTests, decisionTests, injectTests, resetTests}
+use Rattle.refusals.specs.declared.Fixed.{Fixed}
+use Rattle.refusals.specs.declared.Progress.{Progress}
+use Rattle.refusals.specs.Requests.{askOf, requestAfter, stageAfter}
+use Rattle.refusals.specs.Answers.{Lent, lending, Answer, refused, done, candidateOf, answerOf}
+use Rattle.refusals.specs.Tests.{attemptTests, stepTests, supplyTests, failTests, decisionTests, injectTests, resetTests}
 
 -- what a call leaves
 pub record Out : Type 0 where

@@ -1,22 +1,17 @@
 -- What the code hands back, in the terms of the definitions: record and lent memory as a system, and the answer with what it asks or shows.
 -- Definitions only.
-use Prim.Native.Nat.{ℕ, min}
+use Prim.Native.Nat.{ℕ}
 use mathlib.Core.Bool.{Bool, false}
 use mathlib.Core.List.{List}
-use lib.ListN.{length}
 use lib.Ieee.{Float}
-use Rattle.stepping.specs.Refusals.{Test}
 use Rattle.time_difference.specs.declared.TimeDifferencePolicy.{TimeDifferencePolicy}
-use Rattle.tableau.specs.Tableau.{stagesOf}
-use Rattle.tableau.specs.File.{tableauOf}
-use Rattle.stages.specs.Layout.{neededWork}
 use Rattle.attempts.specs.declared.Memo.{Memo}
 use Rattle.attempts.specs.declared.Marks.{Marks}
 use Rattle.attempts.specs.declared.Ending.{Ending}
 use Rattle.attempts.specs.declared.Ending.the-variants.{Asks, Ends, Shows}
 use Rattle.attempts.specs.declared.Stop.{Stop}
-use Rattle.rosenbrock.specs.declared.Fixed.{Fixed}
-use Rattle.rosenbrock.specs.declared.Progress.{Progress}
+use Rattle.refusals.specs.declared.Fixed.{Fixed}
+use Rattle.refusals.specs.declared.Progress.{Progress}
 use Rattle.rosenbrock.specs.declared.StepStatistics.{StepStatistics}
 use Rattle.rosenbrock.specs.declared.RosenbrockStepper.{RosenbrockStepper}
 use Rattle.rosenbrock.specs.declared.Answer as code
@@ -24,9 +19,8 @@ use Rattle.rosenbrock.specs.declared.Answer.the-variants.{Asked, Shown, 
 use Rattle.rosenbrock.specs.declared.Outcome.{Outcome}
 use Rattle.rosenbrock.specs.declared.Making.{Making}
 use Rattle.rosenbrock.specs.declared.Making.the-variants as making
-use Rattle.rosenbrock.specs.Requests.{askOf, requestAfter, stageAfter}
-use Rattle.rosenbrock.specs.Answers.{Lent, lending, Answer, refused, asked, shown, done, requestOf, viewOf}
-use Rattle.rosenbrock.specs.Tests.{sizeTests, newTests}
+use Rattle.refusals.specs.Requests.{askOf, requestAfter, stageAfter}
+use Rattle.refusals.specs.Answers.{Lent, lending, Answer, refused, asked, shown, done, requestOf, viewOf}
 use Rattle.rosenbrock.specs.Calls.{progressAfter}
 use Rattle.rosenbrock.specs.Stepper.{System, tallied, needed, trimmed, Next, Made, not-made, made, make}
 
@@ -70,14 +64,6 @@ madeBy (making.Made y) state work pivots = afterMaking (made (systemOf y state w
 madeBy (making.Refused k) state work pivots = afterMaking (not-made k) (lending state work pivots)
 
 -- ---- parts of the calls, as the code has them
-
--- the first tests, from the lengths as they are lent
-abbrev pub lentTests : Fixed → Progress → ℕ → ℕ → ℕ → List Test
-lentTests fx x state work pivots = sizeTests (fx .n) (fx .s) (x .request) (x .stage) state (min (neededWork (fx .n) (fx .s)) work) pivots
-
--- a making's
-abbrev pub lentNewTests : List ℕ → Float → List Float → ℕ → ℕ → List Test
-lentNewTests file time state work pivots = newTests file time state (min (neededWork (length state) (stagesOf (tableauOf file))) work) pivots
 
 -- its marks as a call hands them over; an attempt counts itself
 unfoldable pub marksBy : Memo → Bool → Marks

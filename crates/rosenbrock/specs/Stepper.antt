@@ -11,12 +11,12 @@ use Rattle.tableau.specs.Tableau.{stagesOf}
 use Rattle.tableau.specs.File.{tableauOf}
 use Rattle.stages.specs.Layout.{neededWork}
 use Rattle.attempts.specs.declared.Counted.{Counted}
-use Rattle.rosenbrock.specs.declared.Fixed.{Fixed}
-use Rattle.rosenbrock.specs.declared.Progress.{Progress}
+use Rattle.refusals.specs.declared.Fixed.{Fixed}
+use Rattle.refusals.specs.declared.Progress.{Progress}
 use Rattle.rosenbrock.specs.declared.StepStatistics.{StepStatistics}
 use Rattle.rosenbrock.specs.declared.RosenbrockStepper.{RosenbrockStepper}
-use Rattle.rosenbrock.specs.Answers.{Lent, lending, Answer}
-use Rattle.rosenbrock.specs.Tests.{makingTests}
+use Rattle.refusals.specs.Answers.{Lent, lending, Answer}
+use Rattle.refusals.specs.Tests.{makingTests}
 use Rattle.rosenbrock.specs.Calls.{Out, attemptOf, attemptToOf, supplyOf, failOf, acceptOf, rejectOf, injectOf, resetOf, fresh, cleared}
 use Rattle.rosenbrock.specs.Readers.{Query, readOf}
 
