@@ -1,4 +1,4 @@
 -- Laws that dependents may cite.
 pub mod Lengths
 pub mod Requests
-mod Links
+pub mod Links

@@ -1,37 +1,33 @@
 -- The links of an attempt: one test passed or failed, one call's answer handed on. Each function's answers are made of these and of what its
 -- calls ensure. Assumes nothing.
-use Prim.Native.Nat.{ℕ, suc, _+_, _*_, _≤_, _<_}
+use Prim.Native.Nat.{ℕ, suc, _+_, _*_, _<_}
 use native.Mathlib.Omega.{arith}
 use native.Mathlib.Numerals.{add-one}
 use native.Mathlib.Nat.{suc-mul, mul-le-mul-right}
-use mathlib.Core.Path.{_≡_, refl, sym, ap, _∙_, subst}
+use mathlib.Core.Path.{_≡_, sym, ap, _∙_, subst}
 use mathlib.Core.Bool.{Bool, true, false, not}
 use mathlib.Core.List.{List}
-use lib.ListN.{length, getD, replicate, length-replicate, getD-replicate}
+use lib.ListN.{length, getD}
 use lib.Dec.{ltb, eqb}
-use lib.Ieee.{Float, nan, eq}
+use lib.Ieee.{Float, eq}
 use borrow.Author.Tests.{ltb-true}
-use borrow.Rule.Slice.PartMut.{putMid}
 use Rattle.float.specs.Operators.{𝟎}
 use Rattle.float.proofs.Cases.{by, told-no, told-yes}
-use Rattle.vector.specs.Lists.{el, table, allFinite}
+use Rattle.vector.specs.Lists.{table, allFinite}
 use Rattle.vector.specs.Parts.{part, puts}
 use Rattle.vector.proofs.Lists.{length-table, every-at}
-use Rattle.vector.proofs.Parts.{length-part, puts-all}
-use Rattle.vector.proofs.Stores.{length-puts, puts-same, mid-puts}
+use Rattle.vector.proofs.Parts.{puts-all}
 use Rattle.stepping.specs.Refusals.{singular}
 use Rattle.linear.specs.declared.Factorization.{Factorization}
 use Rattle.linear.specs.declared.Factorization.the-variants.{Factored, Refused}
 use Rattle.linear.specs.Elimination.{scale, threshold, unusable, pivotOf, stepsDone}
 use Rattle.linear.specs.Calls.{numberOf, eliminationOf, rawOf}
 use Rattle.linear.proofs.Outcomes.{pivots-below, raw-succeeds}
-use Rattle.time_difference.specs.declared.Probes.{Probes}
 use Rattle.stages.specs.Layout.{Stage, PivotRows, factorsAt}
 use Rattle.stages.specs.Memory.{component, eliminationIn}
-use Rattle.differentiation.specs.Memory.{withColumn}
 use Rattle.attempts.specs.declared.Setting.{Setting}
 use Rattle.attempts.specs.declared.Marks.{Marks}
-use Rattle.attempts.specs.Attempt.{Given, Scratch, Stopped, scratch, refuse, choose, provided, askFirstProbe}
+use Rattle.attempts.specs.Attempt.{Scratch, Stopped, scratch, refuse, choose, provided}
 use Rattle.attempts.specs.Calls.{Sizes}
 
 -- ---- one test
@@ -64,9 +60,6 @@ module _ (at n : ℕ) {b : Bool} {w w' : List Float} (l : w ≡ w') (e : b ≡ a
 pub zero-as : {x y : Float} {v : Bool} → x ≡ y → eq x 𝟎 ≡ v → eq y 𝟎 ≡ v
 zero-as e h = sym (ap (λ (z : Float). eq z 𝟎) e) ∙ h
 
-pub not-zero-as : {x y : Float} {v : Bool} → x ≡ y → eq x 𝟎 ≡ v → not (eq y 𝟎) ≡ not v
-not-zero-as e h = ap not (zero-as e h)
-
 -- ---- what the calls before left, and a call after them
 
 pub via : (f : Scratch → Stopped) {m m' : Marks} {w w' : List Float} {p p' : List ℕ} {s : Stopped} → m ≡ m' → w ≡ w' → p ≡ p'
@@ -85,22 +78,6 @@ then f l e = e ∙ ap f l
 pub copied : (from n : ℕ) {u u' v : List Float} {at at' : ℕ} → at ≡ at' → u ≡ u' → v ≡ puts u at (component u from) n → v ≡ puts u' at' (component u' from) n
 copied from n {u} {u'} {v} {at} {at'} a l e =
     e ∙ ap (λ (z : ℕ). puts u z (component u from) n) a ∙ ap (λ (z : List Float). puts z at' (component z from) n) l
-
--- the state stored from 0 on, and a part behind it that was lent to be filled with zeros
-pub begun-as : (w state : List Float) (n k : ℕ) {u y : List Float} → length state ≡ n → 2 * n ≤ length w → k ≡ n → u ≡ puts w 0 (el state) (length state)
-    → y ≡ replicate (length (part n k u)) 𝟎 → putMid n k u y ≡ puts (puts w 0 (el state) n) n (λ j. 𝟎) n
-begun-as w state n k {u} {y} h b q e f =
-    let r : n + n ≤ length u = omega (arith, ap length e ∙ length-puts w 0 (el state) (length state)) in
-    let z : y ≡ replicate n 𝟎 = f ∙ rw q (ap (λ (c : ℕ). replicate c 𝟎) (length-part n n u r)) in
-    rw (q, z) (mid-puts nan n n u (replicate n 𝟎) r (length-replicate n 𝟎))
-    ∙ puts-same u n (el (replicate n 𝟎)) (λ j. 𝟎) n (λ j l. getD-replicate n j 𝟎 nan l)
-    ∙ ap (λ (v : List Float). puts v n (λ j. 𝟎) n) (then (puts w 0 (el state)) h e)
-
-pub column-as : (n k : ℕ) {u u' v : List Float} {x y : Float} → x ≡ y → u ≡ u' → v ≡ withColumn n k x u → v ≡ withColumn n k y u'
-column-as n k a l e = cc
-
-pub probes-as : (g : Given) (x : Scratch) {q q' : Probes} {s : Stopped} → q ≡ q' → s ≡ askFirstProbe g q x → s ≡ askFirstProbe g q' x
-probes-as g x a e = cc
 
 -- ---- the elimination
 

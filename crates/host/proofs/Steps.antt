@@ -9,7 +9,7 @@ use Rattle.rosenbrock.specs.declared.Answer.the-variants.{Asked, Shown, Done, R
 use Rattle.rosenbrock.specs.declared.Outcome.{Outcome}
 use Rattle.rosenbrock.specs.declared.Making.{Making}
 use Rattle.rosenbrock.specs.declared.Making.the-variants as making
-use Rattle.rosenbrock.specs.Answers.{lending}
+use Rattle.refusals.specs.Answers.{lending}
 use Rattle.rosenbrock.specs.Stepper.{Next}
 use Rattle.rosenbrock.specs.Contracts.{answerBy, nextOf, AfterMaking, madeBy}
 use Rattle.host.specs.declared.StepperAnswer.{StepperAnswer}

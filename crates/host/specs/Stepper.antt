@@ -5,7 +5,7 @@ use Rattle.rosenbrock.specs.declared.RosenbrockStepper.{RosenbrockStepper}
 use Rattle.rosenbrock.specs.declared.Answer as code
 use Rattle.rosenbrock.specs.declared.Answer.the-variants.{Asked, Shown, Done, Refused}
 use Rattle.rosenbrock.specs.declared.Outcome.{Outcome}
-use Rattle.rosenbrock.specs.Answers.{Lent, Answer, refused, asked, shown, told, done}
+use Rattle.refusals.specs.Answers.{Lent, Answer, refused, asked, shown, told, done}
 use Rattle.rosenbrock.specs.Calls.{fresh}
 use Rattle.rosenbrock.specs.Stepper.{Next, Made, not-made, made, noStatistics}
 use Rattle.rosenbrock.specs.Contracts.{AfterMaking}

@@ -7,14 +7,14 @@ use mathlib.Core.List.{List}
 use lib.Dec.{eqb}
 use lib.Ieee.{Float}
 use Rattle.stepping.specs.Refusals.{Test, firstOf, unlessRefused}
-use Rattle.rosenbrock.specs.declared.Fixed.{Fixed}
-use Rattle.rosenbrock.specs.declared.Progress.{Progress}
+use Rattle.refusals.specs.declared.Fixed.{Fixed}
+use Rattle.refusals.specs.declared.Progress.{Progress}
 use Rattle.rosenbrock.specs.declared.Answer.{Answer}
 use Rattle.rosenbrock.specs.declared.Answer.the-variants.{Asked, Shown, Done, Refused}
 use Rattle.rosenbrock.specs.declared.Outcome.{Outcome}
-use Rattle.rosenbrock.specs.Answers as Answers
-use Rattle.rosenbrock.specs.Answers.{Lent, refused, done}
-use Rattle.rosenbrock.specs.Tests.{decisionTests}
+use Rattle.refusals.specs.Answers as Answers
+use Rattle.refusals.specs.Answers.{Lent, refused, done}
+use Rattle.refusals.specs.Tests.{decisionTests}
 use Rattle.rosenbrock.specs.Calls.{Out, refusal, guarded, accepted, acceptOf, rejected, rejectOf}
 use Rattle.rosenbrock.specs.Stepper.{by-value, in-place, accept, reject, called, System, needed, trimmed, Next, result, stepped}
 use Rattle.rosenbrock.specs.Contracts.{answerBy, nextOf}

@@ -7,7 +7,7 @@ use lib.Ieee.{Float}
 use Rattle.rosenbrock.specs.declared.RosenbrockStepper.{RosenbrockStepper}
 use Rattle.rosenbrock.specs.declared.Answer.{Answer}
 use Rattle.rosenbrock.specs.declared.Answer.the-variants.{Asked, Shown, Done, Refused}
-use Rattle.rosenbrock.specs.Answers.{refused, done}
+use Rattle.refusals.specs.Answers.{refused, done}
 use Rattle.rosenbrock.specs.Stepper.{Next}
 use Rattle.rosenbrock.specs.Contracts.{systemOf}
 

@@ -18,17 +18,17 @@ use Rattle.attempts.specs.declared.Marks.{Marks}
 use Rattle.attempts.specs.declared.Ending.{Ending}
 use Rattle.attempts.specs.declared.Ending.the-variants.{Asks, Ends, Shows}
 use Rattle.attempts.specs.Attempt.{Stopped, stopped}
-use Rattle.rosenbrock.specs.declared.Fixed.{Fixed}
-use Rattle.rosenbrock.specs.declared.Progress.{Progress}
-use Rattle.rosenbrock.specs.Requests.{isPending, isOpen, requestAfter}
-use Rattle.rosenbrock.specs.Answers.{Lent, candidateOf, viewOf, answerOf}
+use Rattle.refusals.specs.declared.Fixed.{Fixed}
+use Rattle.refusals.specs.declared.Progress.{Progress}
+use Rattle.refusals.specs.Requests.{isPending, isOpen, requestAfter}
+use Rattle.refusals.specs.Answers.{Lent, candidateOf, viewOf, answerOf}
 use Rattle.rosenbrock.specs.Calls.{Out, refusal, guarded, progressAfter, settle, opening, opened, attemptBy, attemptOf, towards, attemptToOf, supplyOf, failed, failOf, accepted, acceptOf, rejected, rejectOf, injected, injectOf, fresh, cleared, restarted, resetOf}
 use Rattle.rosenbrock.specs.Readers.{Query, answered, readOf}
 use Rattle.rosenbrock.specs.Stepper.{Form, Call, attempt, attempt-to, supply, fail, accept, reject, inject-derivative, reset, read, called, System, needed, trimmed, result, stepped}
-use Rattle.rosenbrock.proofs.Requests.{asked-not-pending}
+use Rattle.refusals.proofs.Requests.{asked-not-pending}
 use Rattle.rosenbrock.proofs.Guards.{guarded-either}
 use Rattle.rosenbrock.proofs.Memory.{memory-after}
-use Rattle.rosenbrock.proofs.Passed.{supply-passed, decision-passed, inject-passed}
+use Rattle.refusals.proofs.Passed.{supply-passed, decision-passed, inject-passed}
 use Rattle.lists.specs.Run.{acceptedIn, seen, run}
 use Rattle.lists.specs.Book as book
 

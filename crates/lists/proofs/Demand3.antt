@@ -4,12 +4,12 @@ use mathlib.Core.List.{List}
 use Prim.Native.Nat.{ℕ}
 use lib.Ieee.{Float}
 use Rattle.time_difference.specs.declared.TimeDifferencePolicy.{TimeDifferencePolicy}
-use Rattle.rosenbrock.specs.Answers.{Lent}
+use Rattle.refusals.specs.Answers.{Lent}
 use Rattle.rosenbrock.specs.Calls.{fresh, cleared}
 use Rattle.rosenbrock.specs.Stepper.{System, trimmed, untrimmed, madeOf}
 use Rattle.rosenbrock.proofs.Memory.{tail-after, work-after, pivots-after}
 use Rattle.rosenbrock.proofs.Readers.{read-unchanged}
-use Rattle.rosenbrock.proofs.Fitting.{fits-tests}
+use Rattle.refusals.proofs.Fitting.{fits-tests}
 use Rattle.lists.specs.Run.{after}
 use Rattle.lists.specs.Book.{opened}
 use Rattle.lists.specs.Claim.{Demand3, AlwaysFits, TailUntouched, ReadersChangeNothing}

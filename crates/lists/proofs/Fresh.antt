@@ -13,15 +13,15 @@ use Rattle.stepping.proofs.Refusals.{none, later, holds-later, either-way, is-a
 use Rattle.time_difference.specs.declared.TimeDifferencePolicy.{TimeDifferencePolicy}
 use Rattle.tableau.specs.Tableau.{stagesOf}
 use Rattle.tableau.specs.File.{tableauOf, accepts}
-use Rattle.rosenbrock.specs.declared.Fixed.{Fixed}
-use Rattle.rosenbrock.specs.Answers.{Lent, lending, done}
-use Rattle.rosenbrock.specs.Tests.{shapeFits, makingTests}
+use Rattle.refusals.specs.declared.Fixed.{Fixed}
+use Rattle.refusals.specs.Answers.{Lent, lending, done}
+use Rattle.refusals.specs.Tests.{shapeFits, makingTests}
 use Rattle.rosenbrock.specs.Calls.{Out, cleared, restarted, resetOf}
 use Rattle.rosenbrock.specs.Stepper.{Call, reset, called, System, needed, trimmed, untrimmed, result, stepped, Made, not-made, made, fixedBy, madeOf, make}
 use Rattle.rosenbrock.proofs.Guards.{guarded-passed, done-passed}
 use Rattle.rosenbrock.proofs.Memory.{trim-untrim, untrim-length, memory-after}
-use Rattle.rosenbrock.proofs.Fitting.{shape-fits}
-use Rattle.rosenbrock.proofs.Passed.{ResetPassed, making-passed, reset-passed}
+use Rattle.refusals.proofs.Fitting.{shape-fits}
+use Rattle.refusals.proofs.Passed.{ResetPassed, making-passed, reset-passed}
 use Rattle.lists.specs.Run.{after}
 use Rattle.lists.specs.Claim.{Same, Indistinguishable}
 use Rattle.lists.proofs.Alike.{accepted-same, run-same}

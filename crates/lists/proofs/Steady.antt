@@ -12,18 +12,18 @@ use Rattle.stepping.specs.declared.Endpoint.the-variants.{Step, Refused}
 use Rattle.time_difference.specs.declared.TimeDifferencePolicy.{TimeDifferencePolicy}
 use Rattle.attempts.specs.Attempt.{Stopped}
 use Rattle.attempts.proofs.Requests.{InRange, start-fits, resume-fits}
-use Rattle.rosenbrock.specs.declared.Fixed.{Fixed}
-use Rattle.rosenbrock.specs.declared.Progress.{Progress}
-use Rattle.rosenbrock.specs.Answers.{Lent}
+use Rattle.refusals.specs.declared.Fixed.{Fixed}
+use Rattle.refusals.specs.declared.Progress.{Progress}
+use Rattle.refusals.specs.Answers.{Lent}
 use Rattle.rosenbrock.specs.Calls.{Out, refusal, guarded, givenBy, progressAfter, settle, opening, opened, attemptBy, attemptOf, towards, attemptToOf, supplyOf, failed, failOf, accepted, acceptOf, rejected, rejectOf, injected, injectOf, fresh, cleared, restarted, resetOf}
 use Rattle.rosenbrock.specs.Readers.{answered, readOf}
 use Rattle.rosenbrock.specs.Stepper.{Call, attempt, attempt-to, supply, fail, accept, reject, inject-derivative, reset, read, called, System, needed, trimmed, result, stepped, made, fixedBy, madeOf, make}
-use Rattle.rosenbrock.proofs.Requests.{nothing-fits, fits-after, in-range}
+use Rattle.refusals.proofs.Requests.{nothing-fits, fits-after, in-range}
 use Rattle.rosenbrock.proofs.Guards.{guarded-either}
 use Rattle.rosenbrock.proofs.Lengths.{OutLong, opened-keeps, resumed-keeps, accepted-keeps, injected-keeps, restarted-keeps}
 use Rattle.rosenbrock.proofs.Memory.{memory-after}
-use Rattle.rosenbrock.proofs.Fitting.{LentShape, candidate-length, Fits}
-use Rattle.rosenbrock.proofs.Passed.{supply-passed, reset-passed, making-passed}
+use Rattle.refusals.proofs.Fitting.{LentShape, candidate-length, Fits}
+use Rattle.refusals.proofs.Passed.{supply-passed, reset-passed, making-passed}
 use Rattle.lists.specs.Run.{after}
 use Rattle.lists.proofs.Fresh.{made-is, made-passed, made-memory}
 

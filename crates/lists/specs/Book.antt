@@ -9,7 +9,7 @@ use Rattle.stepping.specs.declared.Checked.the-variants as checked
 use Rattle.stepping.specs.declared.Endpoint.{Endpoint}
 use Rattle.stepping.specs.declared.Endpoint.the-variants as endpoint
 use Rattle.stepping.specs.Time.{checkedTime, endpointStep}
-use Rattle.rosenbrock.specs.Answers.{View, Answer, refused, asked, shown, told, done}
+use Rattle.refusals.specs.Answers.{View, Answer, refused, asked, shown, told, done}
 use Rattle.rosenbrock.specs.Stepper.{Call, attempt, attempt-to, supply, fail, accept, reject, inject-derivative, reset, read}
 use Rattle.lists.specs.Run.{Accepted, Seen}
 

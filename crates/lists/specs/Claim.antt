@@ -6,8 +6,8 @@ use lib.ListN.{length, drop}
 use lib.Ieee.{Float}
 use Rattle.stepping.specs.Refusals.{firstOf}
 use Rattle.time_difference.specs.declared.TimeDifferencePolicy.{TimeDifferencePolicy}
-use Rattle.rosenbrock.specs.Answers.{Lent, lending, done}
-use Rattle.rosenbrock.specs.Tests.{fitTests}
+use Rattle.refusals.specs.Answers.{Lent, lending, done}
+use Rattle.refusals.specs.Tests.{fitTests}
 use Rattle.rosenbrock.specs.Stepper.{Call, reset, read, System, needed, trimmed, stepped, make, made}
 use Rattle.rosenbrock.specs.Readers.{Query}
 use Rattle.lists.specs.Run.{after, acceptedIn, run}

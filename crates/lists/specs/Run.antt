@@ -1,7 +1,7 @@
 -- A list of calls after a making: what is left, and what is seen after each call. Definitions only.
 use mathlib.Core.List.{List, [], _∷_}
 use lib.Ieee.{Float}
-use Rattle.rosenbrock.specs.Answers.{Answer}
+use Rattle.refusals.specs.Answers.{Answer}
 use Rattle.rosenbrock.specs.Stepper.{Call, System, stepped}
 
 -- the stepper and its memory after the calls

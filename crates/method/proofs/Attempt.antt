@@ -19,14 +19,14 @@ use Rattle.tableau.specs.File.{tableauOf}
 use Rattle.stages.specs.Layout.{currentAt, timePartialAt, jacobianAt, stagesAt, rhsStagesAt, neededWork}
 use Rattle.attempts.specs.Marks.{noting, withErrorShown, oneAttempt}
 use Rattle.attempts.specs.Attempt.{onWork, onMarks, halt, choose, show, begun, evaluate, start}
-use Rattle.rosenbrock.specs.declared.Fixed.{Fixed}
-use Rattle.rosenbrock.specs.declared.Progress.{Progress}
-use Rattle.rosenbrock.specs.Requests.{requestAfter, stageAfter}
-use Rattle.rosenbrock.specs.Answers.{Lent, Request, derivative, asked, shown, candidateOf, errorShown, shownPart, stagesShown, rhsStagesShown, jacobianShown, timePartialShown, viewOf}
-use Rattle.rosenbrock.specs.Answers as answers
-use Rattle.rosenbrock.specs.Tests.{attemptTests, stepTests, decisionTests}
+use Rattle.refusals.specs.declared.Fixed.{Fixed}
+use Rattle.refusals.specs.declared.Progress.{Progress}
+use Rattle.refusals.specs.Requests.{requestAfter, stageAfter}
+use Rattle.refusals.specs.Answers.{Lent, Request, derivative, asked, shown, candidateOf, errorShown, shownPart, stagesShown, rhsStagesShown, jacobianShown, timePartialShown, viewOf}
+use Rattle.refusals.specs.Answers as answers
+use Rattle.refusals.specs.Tests.{attemptTests, stepTests, decisionTests}
 use Rattle.rosenbrock.specs.Calls.{Out, refusal, guarded, givenBy, scratchBy, progressAfter, settle, opening, opened, attemptBy, attemptOf, rejected, rejectOf}
-use Rattle.rosenbrock.proofs.Fitting.{LentShape, fits-passed}
+use Rattle.refusals.proofs.Fitting.{LentShape, fits-passed}
 use Rattle.method.specs.Step as method
 use Rattle.method.specs.Step.{Problem, Attempted, Evaluated, Differentiation, Cache, cached, nothing, Caches, orElse, evaluated, derivativeAt, differentiationAt, partialAt}
 use Rattle.method.specs.Schedule.{unlessCached, derivativeItems, jacobianItems, partialItems, schedule, asksFor}

@@ -18,14 +18,14 @@ use Rattle.attempts.specs.declared.Ask.the-variants.{Derivative, Jacobian, Time
 use Rattle.attempts.specs.declared.Memo.{Memo}
 use Rattle.attempts.specs.Marks.{nothingCounted, withRequestTime, counting, noting, countingRhs}
 use Rattle.attempts.specs.Attempt.{Scratch, scratch, Stopped, onMarks, halt, refuse, ask, askRhs, choose, provided, resume, wanted}
-use Rattle.rosenbrock.specs.declared.Fixed.{Fixed}
-use Rattle.rosenbrock.specs.declared.Progress.{Progress}
-use Rattle.rosenbrock.specs.Requests.{askOf, askNumber, askStage, requestAfter, stageAfter, requestFits}
-use Rattle.rosenbrock.specs.Answers.{Lent, lending, kindOf, stateAsked, requestOf, asked, answerOf}
-use Rattle.rosenbrock.specs.Tests.{shapeFits, pivotsUnfit, supplyTests}
+use Rattle.refusals.specs.declared.Fixed.{Fixed}
+use Rattle.refusals.specs.declared.Progress.{Progress}
+use Rattle.refusals.specs.Requests.{askOf, askNumber, askStage, requestAfter, stageAfter, requestFits}
+use Rattle.refusals.specs.Answers.{Lent, lending, kindOf, stateAsked, requestOf, asked, answerOf}
+use Rattle.refusals.specs.Tests.{shapeFits, pivotsUnfit, supplyTests}
 use Rattle.rosenbrock.specs.Calls.{Out, refusal, guarded, givenBy, scratchBy, progressAfter, settle, supplyOf}
-use Rattle.rosenbrock.proofs.Requests.{read-back, asked-open}
-use Rattle.rosenbrock.proofs.Fitting.{shape-fits}
+use Rattle.refusals.proofs.Requests.{read-back, asked-open}
+use Rattle.refusals.proofs.Fitting.{shape-fits}
 use Rattle.method.specs.Step.{Problem, Attempted, Evaluated}
 use Rattle.method.specs.Schedule.{Item, evaluate, test, asksFor, endsIn}
 use Rattle.method.specs.Conversation.{answerTo, Conversation, lastAnswer, Sized}

@@ -19,9 +19,9 @@ use Rattle.differentiation.specs.Memory.{withProbeState}
 use Rattle.differentiation.proofs.Writes.{probe-written}
 use Rattle.attempts.specs.declared.Ask.the-variants.{Jacobian, Column}
 use Rattle.attempts.specs.Attempt.{Scratch, onWork, jacobianDone, openColumn, nextColumn, askJacobian, written, resume}
-use Rattle.rosenbrock.specs.declared.Fixed.{Fixed}
-use Rattle.rosenbrock.specs.declared.Progress.{Progress}
-use Rattle.rosenbrock.specs.Answers.{Lent, kindOf, stateAsked}
+use Rattle.refusals.specs.declared.Fixed.{Fixed}
+use Rattle.refusals.specs.declared.Progress.{Progress}
+use Rattle.refusals.specs.Answers.{Lent, kindOf, stateAsked}
 use Rattle.rosenbrock.specs.Calls.{givenBy}
 use Rattle.method.specs.Step as step
 use Rattle.method.specs.Step.{Problem, Attempted, Evaluated, probedState, probedJacobian, partialAt}

@@ -25,9 +25,9 @@ use Rattle.stages.specs.Memory.{withMatrix, withFactors}
 use Rattle.stages.proofs.Writes.{matrix-length, matrix-written, factors-written}
 use Rattle.attempts.specs.Marks.{counting}
 use Rattle.attempts.specs.Attempt.{Scratch, onWork, onMarks, factor}
-use Rattle.rosenbrock.specs.declared.Fixed.{Fixed}
-use Rattle.rosenbrock.specs.declared.Progress.{Progress}
-use Rattle.rosenbrock.specs.Answers.{Lent}
+use Rattle.refusals.specs.declared.Fixed.{Fixed}
+use Rattle.refusals.specs.declared.Progress.{Progress}
+use Rattle.refusals.specs.Answers.{Lent}
 use Rattle.rosenbrock.specs.Calls.{givenBy}
 use Rattle.method.specs.Step.{Problem, Attempted, Evaluated, matrix}
 use Rattle.method.specs.Schedule.{matrixItems, stagesItems, endItems}

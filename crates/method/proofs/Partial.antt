@@ -24,9 +24,9 @@ use Rattle.differentiation.proofs.Writes.{partial-written}
 use Rattle.attempts.specs.declared.Ask.the-variants.{TimePartial, FirstProbe, SecondProbe}
 use Rattle.attempts.specs.Marks.{noting, withProbes, withRequestTime}
 use Rattle.attempts.specs.Attempt.{Scratch, onWork, onMarks, choose, partialDone, combine, askFirstProbe, askPartial, written, resume}
-use Rattle.rosenbrock.specs.declared.Fixed.{Fixed}
-use Rattle.rosenbrock.specs.declared.Progress.{Progress}
-use Rattle.rosenbrock.specs.Answers.{Lent, kindOf, stateAsked}
+use Rattle.refusals.specs.declared.Fixed.{Fixed}
+use Rattle.refusals.specs.declared.Progress.{Progress}
+use Rattle.refusals.specs.Answers.{Lent, kindOf, stateAsked}
 use Rattle.rosenbrock.specs.Calls.{givenBy}
 use Rattle.method.specs.Step.{Problem, Attempted, Evaluated, probedPartial, partialAt}
 use Rattle.method.specs.Schedule.{Item, finiteTest, probeItems, partialItems, matrixItems, stagesItems, endItems}

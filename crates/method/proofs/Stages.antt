@@ -28,10 +28,10 @@ use Rattle.stages.specs.Memory.{component, withStageState}
 use Rattle.attempts.specs.declared.Ask.the-variants.{Stage}
 use Rattle.attempts.specs.Marks.{noting, withErrorShown, counting}
 use Rattle.attempts.specs.Attempt.{Scratch, Stopped, onWork, onMarks, halt, show, finish, askStage, openStage, nextStage, solveStage, firstStage, written, resume}
-use Rattle.rosenbrock.specs.declared.Fixed.{Fixed}
-use Rattle.rosenbrock.specs.declared.Progress.{Progress}
-use Rattle.rosenbrock.specs.Requests.{requestAfter, stageAfter}
-use Rattle.rosenbrock.specs.Answers.{Lent, kindOf, derivative, stateAsked, shown, candidateOf, errorShown, shownPart, stagesShown, rhsStagesShown, jacobianShown, timePartialShown, viewOf, answerOf}
+use Rattle.refusals.specs.declared.Fixed.{Fixed}
+use Rattle.refusals.specs.declared.Progress.{Progress}
+use Rattle.refusals.specs.Requests.{requestAfter, stageAfter}
+use Rattle.refusals.specs.Answers.{Lent, kindOf, derivative, stateAsked, shown, candidateOf, errorShown, shownPart, stagesShown, rhsStagesShown, jacobianShown, timePartialShown, viewOf, answerOf}
 use Rattle.rosenbrock.specs.Calls.{givenBy, progressAfter, settle}
 use Rattle.method.specs.Step.{Problem, Attempted, Evaluated, matrix, stateOf, reused, derivativeOf, stageOf, stages, derivatives, candidate, error}
 use Rattle.method.specs.Schedule.{Item, test, at, finiteTest, stageDerivativeItems, stageItems, stagesItems, endItems, asksFor, endsIn}

@@ -20,9 +20,9 @@ use Rattle.stages.specs.Method.{newState, errorOf, plusProducts}
 use Rattle.attempts.specs.declared.Ask.the-variants.{Derivative}
 use Rattle.attempts.specs.Marks.{noting, counting, withCaches, withDerivative, withRequestTime}
 use Rattle.attempts.specs.Attempt.{Scratch, onWork, onMarks, differentiate, begun, evaluate, written, resume}
-use Rattle.rosenbrock.specs.declared.Fixed.{Fixed}
-use Rattle.rosenbrock.specs.declared.Progress.{Progress}
-use Rattle.rosenbrock.specs.Answers.{Lent, kindOf, stateAsked}
+use Rattle.refusals.specs.declared.Fixed.{Fixed}
+use Rattle.refusals.specs.declared.Progress.{Progress}
+use Rattle.refusals.specs.Answers.{Lent, kindOf, stateAsked}
 use Rattle.rosenbrock.specs.Calls.{givenBy}
 use Rattle.method.specs.Step as step
 use Rattle.method.specs.Step.{Problem, Attempted, Evaluated, Differentiation, stages, derivatives, partialAt}

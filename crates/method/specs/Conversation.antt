@@ -13,10 +13,10 @@ use Rattle.stepping.specs.Refusals.{firstOf}
 use Rattle.tableau.specs.Tableau.{present, stagesOf}
 use Rattle.tableau.specs.File.{tableauOf}
 use Rattle.stages.specs.Layout.{currentAt, timePartialAt, jacobianAt}
-use Rattle.rosenbrock.specs.declared.Fixed.{Fixed}
-use Rattle.rosenbrock.specs.declared.Progress.{Progress}
-use Rattle.rosenbrock.specs.Answers.{Lent, Request, Kind, derivative, jacobian, timePartial, View, Answer, refused, asked, shown}
-use Rattle.rosenbrock.specs.Tests.{attemptTests, stepTests}
+use Rattle.refusals.specs.declared.Fixed.{Fixed}
+use Rattle.refusals.specs.declared.Progress.{Progress}
+use Rattle.refusals.specs.Answers.{Lent, Request, Kind, derivative, jacobian, timePartial, View, Answer, refused, asked, shown}
+use Rattle.refusals.specs.Tests.{attemptTests, stepTests}
 use Rattle.rosenbrock.specs.Calls.{Out, attemptOf, supplyOf}
 use Rattle.method.specs.Step.{Problem, Attempted, Cache, cached, nothing, Caches, Evaluated, evaluated, stages, derivatives, candidate, error}
 use Rattle.method.specs.Schedule.{schedule, asksFor, endsIn}

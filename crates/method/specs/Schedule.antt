@@ -17,7 +17,7 @@ use Rattle.tableau.specs.Tableau.{stagesOf}
 use Rattle.stepping.specs.Refusals.{nonFinite, timeResolution, singular, Test, _when_}
 use Rattle.stages.specs.Method.{stageTime}
 use Rattle.differentiation.specs.Differences.{rise}
-use Rattle.rosenbrock.specs.Answers.{Request, Kind, derivative, jacobian, timePartial}
+use Rattle.refusals.specs.Answers.{Request, Kind, derivative, jacobian, timePartial}
 use Rattle.method.specs.Step.{Attempted, Evaluated, matrix, stateOf, reused, derivativeOf, stageOf, stages, candidate, error, probedState, Cache, cached, nothing, Caches, evaluated}
 
 -- an evaluation that is asked for, or a test

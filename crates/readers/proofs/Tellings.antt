@@ -18,16 +18,17 @@ use Rattle.stepping.proofs.Refusals.{here, later, none, passed, held, first-ref
 use Rattle.stages.specs.Layout.{neededWork, stagesAt, stageAt, rhsStagesAt, rhsStageAt}
 use Rattle.attempts.specs.declared.Ask.{Ask}
 use Rattle.rosenbrock.specs.declared.RosenbrockStepper.{RosenbrockStepper}
-use Rattle.rosenbrock.specs.Requests.{isOpen, askOf}
-use Rattle.rosenbrock.specs.Answers.{Lent, lending, Answer, derivative, vector, request, told, kindOf, stateAsked, requestOf, shownPart}
-use Rattle.rosenbrock.specs.Tests.{fitTests, openTest, candidateTest, requestTest}
+use Rattle.refusals.specs.Requests.{isOpen, askOf}
+use Rattle.refusals.specs.Answers.{Lent, lending, Answer, derivative, vector, request, told, kindOf, stateAsked, requestOf, shownPart}
+use Rattle.refusals.specs.Tests.{fitTests, openTest, candidateTest, requestTest, lentTests}
 use Rattle.rosenbrock.specs.Calls.{Out, refusal, guarded}
 use Rattle.rosenbrock.specs.Readers.{Query, the-request, noStage, queryTests, reply, answered, readOf}
 use Rattle.rosenbrock.specs.Stepper.{read, called, needed, trimmed, result, stepped}
-use Rattle.rosenbrock.specs.Contracts.{lentTests, systemOf}
+use Rattle.rosenbrock.specs.Contracts.{systemOf}
 use Rattle.rosenbrock.proofs.Guards.{guarded-passed}
-use Rattle.rosenbrock.proofs.Fitting.{Shape, fits-passed}
-use Rattle.rosenbrock.proofs.Tested.{cut, fitted, vectors-in, asks-stage}
+use Rattle.refusals.proofs.Fitting.{Shape, fits-passed}
+use Rattle.rosenbrock.proofs.Memory.{cut}
+use Rattle.refusals.proofs.Tested.{fitted, vectors-in, asks-stage}
 use Rattle.readers.specs.declared.Told.{Told}
 use Rattle.readers.specs.declared.Told.the-variants.{Part, Refused}
 use Rattle.readers.specs.Telling.{kindBy, tells, askedBy}

@@ -7,8 +7,8 @@ use lib.Ieee.{Float}
 use Rattle.vector.specs.Parts.{part}
 use Rattle.stages.specs.Layout.{stageStateAt, probeStateAt}
 use Rattle.rosenbrock.specs.declared.StepStatistics.{StepStatistics}
-use Rattle.rosenbrock.specs.Answers as Answers
-use Rattle.rosenbrock.specs.Answers.{Lent, Answer, derivative, jacobian, timePartial, number, vector, absent, request, statistics, refused, told}
+use Rattle.refusals.specs.Answers as Answers
+use Rattle.refusals.specs.Answers.{Lent, Answer, derivative, jacobian, timePartial, number, vector, absent, request, statistics, refused, told}
 use Rattle.readers.specs.declared.Kind.{Kind}
 use Rattle.readers.specs.declared.Kind.the-variants.{Derivative, Jacobian, TimePartial}
 use Rattle.readers.specs.declared.Told.{Told}

@@ -9,15 +9,15 @@ ghost use lib.Ieee.{eq};
 ghost use Rattle.float.specs.Operators.{𝟎};
 ghost use Rattle.stepping.specs.Refusals.{dimension, _when_, firstOf};
 ghost use Rattle.stages.specs.Layout.{stagesAt};
-ghost use Rattle.rosenbrock.specs.Tests.{openTest};
-ghost use Rattle.rosenbrock.specs.Answers.{lending};
+ghost use Rattle.refusals.specs.Tests.{openTest, lentTests};
+ghost use Rattle.refusals.specs.Answers.{lending};
 ghost use Rattle.rosenbrock.specs.Readers as query;
 ghost use Rattle.rosenbrock.specs.Readers.{noStage};
 ghost use Rattle.rosenbrock.specs.Stepper.{read, stepped};
-ghost use Rattle.rosenbrock.specs.Contracts.{lentTests, systemOf};
+ghost use Rattle.rosenbrock.specs.Contracts.{systemOf};
 ghost use Rattle.readers.specs.Telling.{askedBy, tells, copied, countersTold};
-use rosenbrock::Fixed;
-use rosenbrock::Progress;
+use refusals::Fixed;
+use refusals::Progress;
 use rosenbrock::RosenbrockStepper;
 use rosenbrock::StepStatistics;
 
@@ -47,7 +47,7 @@ fn record_refusal(fixed: Fixed, progress: Progress, state: usize, work: usize, p
     ensures { λ r. ⌜ r ≡ firstOf (lentTests fixed progress state work pivots ++ (openTest progress ∷ [])) ⌝ }
 {
     let request = progress.request;
-    let number = rosenbrock::fit_refusal(
+    let number = refusals::fit_refusal(
         fixed.n,
         fixed.s,
         request,
@@ -138,7 +138,7 @@ pub fn request(stepper: RosenbrockStepper, state: &[f64], work: &[f64], pivots: 
     let n = fixed.n;
     let request = progress.request;
     let time = memo.request_time;
-    let number = rosenbrock::fail_refusal(fixed, progress, state.len(), work.len(), pivots.len());
+    let number = refusals::fail_refusal(fixed, progress, state.len(), work.len(), pivots.len());
     if number != 0 {
         return Told::Refused(number);
     }
@@ -218,13 +218,7 @@ pub fn start(stepper: RosenbrockStepper, state: &[f64], work: &[f64], pivots: &[
     let fixed = stepper.fixed;
     let progress = stepper.progress;
     let time = progress.time;
-    let number = rosenbrock::decision_refusal(
-        fixed,
-        progress,
-        state.len(),
-        work.len(),
-        pivots.len(),
-    );
+    let number = refusals::decision_refusal(fixed, progress, state.len(), work.len(), pivots.len());
     if number != 0 {
         return Told::Refused(number);
     }
@@ -238,13 +232,7 @@ pub fn end(stepper: RosenbrockStepper, state: &[f64], work: &[f64], pivots: &[us
     let fixed = stepper.fixed;
     let progress = stepper.progress;
     let end = progress.end;
-    let number = rosenbrock::decision_refusal(
-        fixed,
-        progress,
-        state.len(),
-        work.len(),
-        pivots.len(),
-    );
+    let number = refusals::decision_refusal(fixed, progress, state.len(), work.len(), pivots.len());
     if number != 0 {
         return Told::Refused(number);
     }
@@ -258,13 +246,7 @@ pub fn candidate(stepper: RosenbrockStepper, state: &[f64], work: &[f64], pivots
     let fixed = stepper.fixed;
     let progress = stepper.progress;
     let n = fixed.n;
-    let number = rosenbrock::decision_refusal(
-        fixed,
-        progress,
-        state.len(),
-        work.len(),
-        pivots.len(),
-    );
+    let number = refusals::decision_refusal(fixed, progress, state.len(), work.len(), pivots.len());
     if number != 0 {
         return Told::Refused(number);
     }
@@ -281,13 +263,7 @@ pub fn error(stepper: RosenbrockStepper, state: &[f64], work: &[f64], pivots: &[
     let memo = progress.memo;
     let n = fixed.n;
     let error_shown = memo.error_shown;
-    let number = rosenbrock::decision_refusal(
-        fixed,
-        progress,
-        state.len(),
-        work.len(),
-        pivots.len(),
-    );
+    let number = refusals::decision_refusal(fixed, progress, state.len(), work.len(), pivots.len());
     if number != 0 {
         return Told::Refused(number);
     }
@@ -307,13 +283,7 @@ pub fn stages(stepper: RosenbrockStepper, state: &[f64], work: &[f64], pivots: &
     let n = fixed.n;
     let s = fixed.s;
     let step = progress.step;
-    let number = rosenbrock::decision_refusal(
-        fixed,
-        progress,
-        state.len(),
-        work.len(),
-        pivots.len(),
-    );
+    let number = refusals::decision_refusal(fixed, progress, state.len(), work.len(), pivots.len());
     if number != 0 {
         return Told::Refused(number);
     }
@@ -329,13 +299,7 @@ pub fn rhs_stages(stepper: RosenbrockStepper, state: &[f64], work: &[f64], pivot
     let n = fixed.n;
     let s = fixed.s;
     let step = progress.step;
-    let number = rosenbrock::decision_refusal(
-        fixed,
-        progress,
-        state.len(),
-        work.len(),
-        pivots.len(),
-    );
+    let number = refusals::decision_refusal(fixed, progress, state.len(), work.len(), pivots.len());
     if number != 0 {
         return Told::Refused(number);
     }
@@ -350,13 +314,7 @@ pub fn jacobian(stepper: RosenbrockStepper, state: &[f64], work: &[f64], pivots:
     let progress = stepper.progress;
     let n = fixed.n;
     let step = progress.step;
-    let number = rosenbrock::decision_refusal(
-        fixed,
-        progress,
-        state.len(),
-        work.len(),
-        pivots.len(),
-    );
+    let number = refusals::decision_refusal(fixed, progress, state.len(), work.len(), pivots.len());
     if number != 0 {
         return Told::Refused(number);
     }
@@ -376,13 +334,7 @@ pub fn time_partial(
     let progress = stepper.progress;
     let n = fixed.n;
     let step = progress.step;
-    let number = rosenbrock::decision_refusal(
-        fixed,
-        progress,
-        state.len(),
-        work.len(),
-        pivots.len(),
-    );
+    let number = refusals::decision_refusal(fixed, progress, state.len(), work.len(), pivots.len());
     if number != 0 {
         return Told::Refused(number);
     }
@@ -402,13 +354,7 @@ pub fn stage(
     let fixed = stepper.fixed;
     let progress = stepper.progress;
     let n = fixed.n;
-    let number = rosenbrock::decision_refusal(
-        fixed,
-        progress,
-        state.len(),
-        work.len(),
-        pivots.len(),
-    );
+    let number = refusals::decision_refusal(fixed, progress, state.len(), work.len(), pivots.len());
     if number != 0 {
         return Told::Refused(number);
     }
@@ -433,13 +379,7 @@ pub fn rhs_stage(
     let progress = stepper.progress;
     let n = fixed.n;
     let s = fixed.s;
-    let number = rosenbrock::decision_refusal(
-        fixed,
-        progress,
-        state.len(),
-        work.len(),
-        pivots.len(),
-    );
+    let number = refusals::decision_refusal(fixed, progress, state.len(), work.len(), pivots.len());
     if number != 0 {
         return Told::Refused(number);
     }

@@ -28,23 +28,23 @@ use Rattle.attempts.specs.declared.Stop.{Stop}
 use Rattle.attempts.specs.Attempt.{Stopped, given, scratch, stopped, wanted, start, resume}
 use Rattle.attempts.specs.Calls.{Sizes, Answers}
 use Rattle.attempts.proofs.Requests.{AskInRange}
-use Rattle.rosenbrock.specs.declared.Fixed.{Fixed}
-use Rattle.rosenbrock.specs.declared.Progress.{Progress}
+use Rattle.refusals.specs.declared.Fixed.{Fixed}
+use Rattle.refusals.specs.declared.Progress.{Progress}
 use Rattle.rosenbrock.specs.declared.RosenbrockStepper.{RosenbrockStepper}
 use Rattle.rosenbrock.specs.declared.Answer.the-variants.{Refused}
 use Rattle.rosenbrock.specs.declared.Outcome.{Outcome}
-use Rattle.rosenbrock.specs.Requests.{askOf, askNumber, askStage, requestAfter, stageAfter}
-use Rattle.rosenbrock.specs.Answers.{Lent, lending, asked, requestOf, answerOf}
-use Rattle.rosenbrock.specs.Tests.{attemptTests, stepTests, supplyTests, fileTests, openTest, requestTest, pivotsUnfit}
-use Rattle.rosenbrock.specs.Calls.{givenBy, scratchBy, progressAfter, settle, opening, opened, attemptBy, attemptOf, towards, attemptToOf, supplyOf}
-use Rattle.rosenbrock.specs.Stepper.{attempt, attempt-to, supply, called, tallied, needed, trimmed, untrimmed, Next, result, stepped}
-use Rattle.rosenbrock.specs.Contracts.{systemOf, answerBy, nextOf, nextBy, lentTests, answerTests, settingBy, marksBy, answerAfter, outcomeAfter}
-use Rattle.rosenbrock.proofs.Requests.{read-back, in-range}
-use Rattle.rosenbrock.proofs.Fitting.{Shape, fits-passed}
-use Rattle.rosenbrock.proofs.Passed.{supply-passed, supply-values}
+use Rattle.refusals.specs.Requests.{askOf, askNumber, askStage, requestAfter, stageAfter}
+use Rattle.refusals.specs.Answers.{Lent, lending, asked, requestOf, answerOf}
+use Rattle.refusals.specs.Tests.{attemptTests, stepTests, supplyTests, fileTests, openTest, requestTest, pivotsUnfit, answerTests, lentTests}
+use Rattle.rosenbrock.specs.Calls.{givenBy, scratchBy, progressAfter, settle, opening, opened, attemptBy, attemptOf, towards, attemptToOf, supplyOf, settingBy}
+use Rattle.rosenbrock.specs.Stepper.{attempt, attempt-to, supply, called, tallied, needed, trimmed, untrimmed, Next, result, stepped, nextBy}
+use Rattle.rosenbrock.specs.Contracts.{systemOf, answerBy, nextOf, marksBy, answerAfter, outcomeAfter}
+use Rattle.refusals.proofs.Requests.{read-back, in-range}
+use Rattle.refusals.proofs.Fitting.{Shape, fits-passed}
+use Rattle.refusals.proofs.Passed.{supply-passed, supply-values}
 use Rattle.rosenbrock.proofs.Lengths.{opened-keeps, resumed-keeps}
-use Rattle.rosenbrock.proofs.Memory.{trim-untrim}
-use Rattle.rosenbrock.proofs.Tested.{cut, fitted, lent-work}
+use Rattle.rosenbrock.proofs.Memory.{trim-untrim, cut}
+use Rattle.refusals.proofs.Tested.{fitted, lent-work}
 use Rattle.rosenbrock.proofs.Nexts.{left, refusal-next, guard-refuses, guard-passes, refused-next, passed-next}
 
 -- the answer is read from the record and the memory
@@ -66,7 +66,7 @@ module _ (y : RosenbrockStepper) (state work : List Float) (pivots : List ℕ) w
 
   settle-next : (x : Progress) (r : Stopped) → length (r .work) ≡ length (cut-m .work)
       → nextOf (outcomeAfter (y .fixed) x (y .statistics) (r .stop)) state (r .work ++ drop (needed (y .fixed)) work) (r .pivots) ≡ nextBy y m (settle (y .fixed) x cut-m r)
-  unfolding nextOf nextBy outcomeAfter settle untrimmed trimmed
+  unfolding nextOf outcomeAfter settle untrimmed trimmed
   settle-next x r h =
       let fx = y .fixed in
       let memo = r .stop .marks .memo in
@@ -90,7 +90,7 @@ module _ (y : RosenbrockStepper) (state work : List Float) (pivots : List ℕ) w
     work-lent = rw a (lent-work f)
 
     pub sized : Sizes g (length state) (length (take need work)) × (length pivots ≡ g .n)
-    unfolding settingBy neededWork
+    unfolding neededWork
     sized =
         let n = y .fixed .n in
         let s = y .fixed .s in
@@ -125,7 +125,7 @@ module _ (y : RosenbrockStepper) (state work : List Float) (pivots : List ℕ) w
           → need ≡ neededWork (y .fixed .n) (y .fixed .s) → x ≡ opening step jacobian partial (y .progress) → g ≡ settingBy (y .fixed) x → marks ≡ marksBy (x .memo) true
           → stopped stop w p ≡ start (given g (tableauOf file) state) (scratch marks (take need work) pivots) → o ≡ outcomeAfter (y .fixed) x (y .statistics) stop
           → nextOf o state (w ++ drop need work) p ≡ nextBy y m (attemptBy (y .fixed) file step jacobian partial (y .progress) cut-m)
-      unfolding attemptBy opened givenBy scratchBy settingBy marksBy trimmed needed settle
+      unfolding attemptBy opened givenBy scratchBy marksBy trimmed needed settle
       step-opened z {need = need} a b c d f h =
           let fx = y .fixed in
           let X = opening step jacobian partial (y .progress) in
@@ -209,7 +209,7 @@ module _ (y : RosenbrockStepper) (state work : List Float) (pivots : List ℕ) w
       wanted-values = supply-values (y .fixed) (y .progress) cut-m file values (sym answerable ∙ z)
 
       pub answers : {g : Setting} {a : Ask} → g ≡ settingBy (y .fixed) (y .progress) → a ≡ asks → Answers g pivots a (length values)
-      unfolding settingBy pivotsUnfit
+      unfolding pivotsUnfit
       answers b c =
           let n = y .fixed .n in
           let s = y .fixed .s in
@@ -227,7 +227,7 @@ module _ (y : RosenbrockStepper) (state work : List Float) (pivots : List ℕ) w
           → need ≡ neededWork (y .fixed .n) (y .fixed .s) → g ≡ settingBy (y .fixed) (y .progress) → marks ≡ marksBy (y .progress .memo) false → a ≡ asks
           → stopped stop w p ≡ resume (given g (tableauOf file) state) a values (scratch marks (take need work) pivots) → o ≡ outcomeAfter (y .fixed) (y .progress) (y .statistics) stop
           → nextOf o state (w ++ drop need work) p ≡ stepped (supply file values) (systemOf y state work pivots)
-      unfolding result called supplyOf givenBy scratchBy settingBy marksBy trimmed needed settle
+      unfolding result called supplyOf givenBy scratchBy marksBy trimmed needed settle
       supply-done a b c d f h =
           let fx = y .fixed in
           let x = y .progress in

@@ -4,8 +4,8 @@ use mathlib.Core.Path.{_≡_, refl, sym}
 use mathlib.Core.List.{List}
 use Rattle.stepping.specs.Refusals.{Test, firstOf}
 use Rattle.stepping.proofs.Refusals.{either-way, is-answered}
-use Rattle.rosenbrock.specs.declared.Progress.{Progress}
-use Rattle.rosenbrock.specs.Answers.{Lent, done}
+use Rattle.refusals.specs.declared.Progress.{Progress}
+use Rattle.refusals.specs.Answers.{Lent, done}
 use Rattle.rosenbrock.specs.Calls.{Out, refusal, guarded}
 
 module _ (tests : List Test) (x : Progress) (m : Lent) (o : Out) where

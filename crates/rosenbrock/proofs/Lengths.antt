@@ -14,9 +14,9 @@ use Rattle.attempts.specs.declared.Ask.{Ask}
 use Rattle.attempts.specs.Marks.{nothingCounted}
 use Rattle.attempts.specs.Attempt.{Stopped, resume}
 use Rattle.attempts.proofs.Lengths.{Long, StoppedLong, start-keeps, resume-keeps}
-use Rattle.rosenbrock.specs.declared.Fixed.{Fixed}
-use Rattle.rosenbrock.specs.declared.Progress.{Progress}
-use Rattle.rosenbrock.specs.Answers.{Lent}
+use Rattle.refusals.specs.declared.Fixed.{Fixed}
+use Rattle.refusals.specs.declared.Progress.{Progress}
+use Rattle.refusals.specs.Answers.{Lent}
 use Rattle.rosenbrock.specs.Calls.{Out, refusal, guarded, givenBy, scratchBy, settle, opening, opened, attemptBy, attemptOf, towards, attemptToOf, supplyOf, failed, failOf, accepted, acceptOf, rejected, rejectOf, injected, injectOf, cleared, restarted, resetOf}
 use Rattle.rosenbrock.specs.Readers.{Query, answered, readOf}
 use Rattle.rosenbrock.specs.Stepper.{Call, attempt, attempt-to, supply, fail, accept, reject, inject-derivative, reset, read, called}

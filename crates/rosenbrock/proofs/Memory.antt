@@ -3,12 +3,18 @@ use Prim.Native.Nat.{ℕ, zero, suc, _+_, _≤_}
 use native.Mathlib.Omega.{arith}
 use mathlib.Core.Path.{_≡_, sym, ap, _∙_}
 use mathlib.Core.List.{List, _++_}
-use lib.ListN.{length, take, drop, set, take-append-drop}
+use lib.Ieee.{Float}
+use lib.ListN.{length, take, drop, set, take-append-drop, length-take}
 use lib.Seq.{length-take-le, set-append-left}
 use Rattle.vector.specs.Parts.{puts}
 use Rattle.vector.proofs.Stores.{length-puts}
 use Rattle.vector.proofs.Fronts.{take-front, drop-front, length-replaced}
-use Rattle.rosenbrock.specs.Answers.{Lent}
+use Rattle.stepping.specs.Refusals.{Test, firstOf}
+use Rattle.stages.specs.Layout.{neededWork}
+use Rattle.refusals.specs.declared.Fixed.{Fixed}
+use Rattle.refusals.specs.declared.Progress.{Progress}
+use Rattle.refusals.specs.Answers.{Lent, lending}
+use Rattle.refusals.specs.Tests.{sizeTests, fitTests, lentTests}
 use Rattle.rosenbrock.specs.Stepper.{Call, System, needed, trimmed, untrimmed, result, stepped}
 use Rattle.rosenbrock.proofs.Lengths.{OutLong, called-keeps}
 
@@ -55,3 +61,13 @@ puts-front k w at f zero h l = take-append-drop k w
 puts-front {A} k w at f (suc n) h l =
     sym (set-append-left (puts (take k w) at f n) (drop k w) (at + n) (f n) (omega (arith, length-puts (take k w) at f n, length-take-le k w l)))
     ∙ ap (λ (v : List A). set v (at + n) (f n)) (puts-front k w at f n (omega arith) l)
+
+-- the first tests, from the lengths as they are lent
+module _ (fx : Fixed) (x : Progress) where
+  -- on the trimmed memory the lengths are cut
+  pub cut : (state work : List Float) (pivots : List ℕ) (rest : List Test)
+      → firstOf (lentTests fx x (length state) (length work) (length pivots) ++ rest) ≡ firstOf (fitTests fx x (trimmed (needed fx) (lending state work pivots)) ++ rest)
+  unfolding trimmed needed
+  cut state work pivots rest =
+      ap (λ (k : ℕ). firstOf (sizeTests (fx .n) (fx .s) (x .request) (x .stage) (length state) k (length pivots) ++ rest))
+      (sym (length-take (neededWork (fx .n) (fx .s)) work))

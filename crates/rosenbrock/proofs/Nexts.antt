@@ -17,24 +17,24 @@ use Rattle.stages.specs.Layout.{neededWork}
 use Rattle.attempts.specs.declared.Counted.{Counted}
 use Rattle.attempts.specs.declared.Memo.{Memo}
 use Rattle.attempts.specs.Marks.{withCaches, nothingCounted, oneAccepted, oneRejected}
-use Rattle.rosenbrock.specs.declared.Progress.{Progress}
+use Rattle.refusals.specs.declared.Progress.{Progress}
 use Rattle.rosenbrock.specs.declared.StepStatistics.{StepStatistics}
 use Rattle.rosenbrock.specs.declared.RosenbrockStepper.{RosenbrockStepper}
 use Rattle.rosenbrock.specs.declared.Answer.{Answer}
 use Rattle.rosenbrock.specs.declared.Answer.the-variants.{Done, Refused}
 use Rattle.rosenbrock.specs.declared.Outcome.{Outcome}
-use Rattle.rosenbrock.specs.Answers.{Lent, lending, refused, candidateOf}
-use Rattle.rosenbrock.specs.Answers as Answers
-use Rattle.rosenbrock.specs.Tests.{decisionTests, failTests, injectTests, resetTests, openTest, pendingTest, candidateTest, requestTest, lengthTest, finiteTest}
+use Rattle.refusals.specs.Answers.{Lent, lending, refused, candidateOf}
+use Rattle.refusals.specs.Answers as Answers
+use Rattle.refusals.specs.Tests.{decisionTests, failTests, injectTests, resetTests, openTest, pendingTest, candidateTest, requestTest, lengthTest, finiteTest, lentTests}
 use Rattle.rosenbrock.specs.Calls.{Out, refusal, guarded, progressAfter, memoAccepted, accepted, acceptOf, rejected, rejectOf, failed, failOf, injected, injectOf, fresh, cleared, restarted, resetOf}
-use Rattle.rosenbrock.specs.Stepper.{Call, by-value, accept, reject, fail, inject-derivative, reset, called, oneMore, tallied, needed, trimmed, untrimmed, result, stepped}
-use Rattle.rosenbrock.specs.Contracts.{systemOf, answerBy, nextOf, nextBy, lentTests}
+use Rattle.rosenbrock.specs.Stepper.{Call, by-value, accept, reject, fail, inject-derivative, reset, called, oneMore, tallied, needed, trimmed, untrimmed, result, stepped, nextBy}
+use Rattle.rosenbrock.specs.Contracts.{systemOf, answerBy, nextOf}
 use Rattle.rosenbrock.proofs.Guards.{guarded-passed}
 use Rattle.rosenbrock.proofs.Readers.{untrimmed-same}
-use Rattle.rosenbrock.proofs.Memory.{puts-front}
-use Rattle.rosenbrock.proofs.Tested.{cut, fitted, lent-work, vectors-in}
-use Rattle.rosenbrock.proofs.Fitting.{Shape}
-use Rattle.rosenbrock.proofs.Passed.{inject-size, reset-passed}
+use Rattle.rosenbrock.proofs.Memory.{puts-front, cut}
+use Rattle.refusals.proofs.Tested.{fitted, lent-work, vectors-in}
+use Rattle.refusals.proofs.Fitting.{Shape}
+use Rattle.refusals.proofs.Passed.{inject-size, reset-passed}
 
 -- what the code hands back: the record as it was fixed, with what was moved
 abbrev pub left : RosenbrockStepper → Progress → StepStatistics → Answer → Outcome
@@ -86,7 +86,7 @@ module _ (y : RosenbrockStepper) (state work : List Float) (pivots : List ℕ) w
   cut-m = trimmed (needed (y .fixed)) m
 
   pub refusal-next : (k : ℕ) → nextOf (left y (y .progress) (y .statistics) (Refused k)) state work pivots ≡ nextBy y m (refusal (y .progress) cut-m k)
-  unfolding nextOf answerBy nextBy refusal tallied oneMore
+  unfolding nextOf answerBy refusal tallied oneMore
   refusal-next k =
       λ i. record {
         system = record { stepper = y; lent = sym (untrimmed-same (needed (y .fixed)) m) i };
@@ -104,11 +104,11 @@ module _ (y : RosenbrockStepper) (state work : List Float) (pivots : List ℕ) w
 
   module _ (c : Call) (tests : List Test) (o : Out) (same : result c (systemOf y state work pivots) ≡ guarded tests (y .progress) cut-m o) where
     pub refused-next : {k : ℕ} → k ≡ firstOf tests → (k ≡ 0 → ⊥) → nextOf (left y (y .progress) (y .statistics) (Refused k)) state work pivots ≡ stepped c (systemOf y state work pivots)
-    unfolding stepped nextBy
+    unfolding stepped
     refused-next e h = guard-refuses tests o e h ∙ ap (nextBy y m) (sym same)
 
     pub passed-next : {k : ℕ} → k ≡ firstOf tests → k ≡ 0 → nextBy y m o ≡ stepped c (systemOf y state work pivots)
-    unfolding stepped nextBy
+    unfolding stepped
     passed-next e h = guard-passes tests o e h ∙ ap (nextBy y m) (sym same)
 
   -- what the code leaves, where the memory and the answer are the defined ones
@@ -116,7 +116,7 @@ module _ (y : RosenbrockStepper) (state work : List Float) (pivots : List ℕ) w
       → lending s w p ≡ untrimmed (needed (y .fixed)) m l
       → answerBy a (y .fixed) x (trimmed (needed (y .fixed)) (lending s w p)) ≡ b
       → nextOf (left y x (tallied c (y .statistics)) a) s w p ≡ nextBy y m (record { progress = x; lent = l; counted = c; answer = b })
-  unfolding nextOf nextBy
+  unfolding nextOf
   left-next a x c l e h =
       λ i. record {
         system = record { stepper = record { fixed = y .fixed; progress = x; statistics = tallied c (y .statistics) }; lent = e i };
@@ -226,7 +226,7 @@ module _ (y : RosenbrockStepper) (state work : List Float) (pivots : List ℕ) w
           let n = y .fixed .n in
           let at-n = q ∙ ap (puts work (3 * n) (el derivative)) inject-length
           ∙ sym (puts-front (neededWork n (y .fixed .s)) work (3 * n) (el derivative) n (omega (arith, vectors-in n (y .fixed .s))) (lent-work inject-shape)) in
-          left-next Done _ nothingCounted _ (λ i. lending state (at-n i) pivots) refl
+          left-next Done _ nothingCounted (injected (y .fixed) derivative (y .progress) cut-m .lent) (λ i. lending state (at-n i) pivots) refl
           ∙ passed-next (inject-derivative derivative) _ _ refl injectable z
 
   -- ---- reset
@@ -255,5 +255,5 @@ module _ (y : RosenbrockStepper) (state work : List Float) (pivots : List ℕ) w
       reset-done a b c d f =
           let g = d ∙ ap (λ (j : ℕ). replicate (length (take j work)) 𝟎) a in
           (λ i. nextOf (left y (b i) (y .statistics) Done) (c i) (g i ++ drop (a i) work) (f i))
-          ∙ left-next Done (fresh time) nothingCounted _ refl refl
+          ∙ left-next Done (fresh time) nothingCounted (cleared values cut-m) refl refl
           ∙ passed-next (reset time values) _ _ refl resettable z

@@ -4,10 +4,10 @@ use mathlib.Core.Path.{_≡_, refl, _∙_}
 use lib.ListN.{take-append-drop}
 use Rattle.attempts.specs.declared.Counted.{Counted}
 use Rattle.attempts.specs.Marks.{nothingCounted}
-use Rattle.rosenbrock.specs.declared.Fixed.{Fixed}
-use Rattle.rosenbrock.specs.declared.Progress.{Progress}
+use Rattle.refusals.specs.declared.Fixed.{Fixed}
+use Rattle.refusals.specs.declared.Progress.{Progress}
 use Rattle.rosenbrock.specs.declared.StepStatistics.{StepStatistics}
-use Rattle.rosenbrock.specs.Answers.{Lent}
+use Rattle.refusals.specs.Answers.{Lent}
 use Rattle.rosenbrock.specs.Calls.{Out, refusal}
 use Rattle.rosenbrock.specs.Readers.{Query, answered, readOf}
 use Rattle.rosenbrock.specs.Stepper.{read, called, oneMore, tallied, System, needed, trimmed, untrimmed, result, stepped}

@@ -2,12 +2,12 @@
 use Prim.Native.Nat.{ℕ}
 use mathlib.Core.Path.{_≡_}
 use Rattle.attempts.specs.declared.Stop.{Stop}
-use Rattle.rosenbrock.specs.declared.Fixed.{Fixed}
-use Rattle.rosenbrock.specs.declared.Progress.{Progress}
+use Rattle.refusals.specs.declared.Fixed.{Fixed}
+use Rattle.refusals.specs.declared.Progress.{Progress}
 use Rattle.rosenbrock.specs.declared.StepStatistics.{StepStatistics}
 use Rattle.rosenbrock.specs.declared.Answer.{Answer}
 use Rattle.rosenbrock.specs.declared.Outcome.{Outcome}
-use Rattle.rosenbrock.specs.Requests.{requestAfter, stageAfter}
+use Rattle.refusals.specs.Requests.{requestAfter, stageAfter}
 use Rattle.rosenbrock.specs.Calls.{progressAfter}
 use Rattle.rosenbrock.specs.Stepper.{tallied}
 use Rattle.rosenbrock.specs.Contracts.{answerAfter, outcomeAfter}

@@ -14,15 +14,16 @@ use Rattle.stepping.specs.declared.Endpoint.the-variants.{Step, Refused}
 use Rattle.stepping.specs.Time.{endpointStep}
 use Rattle.tableau.specs.File.{tableauOf}
 use Rattle.stages.specs.Layout.{currentAt}
+use Rattle.attempts.specs.declared.Setting.{Setting}
 use Rattle.attempts.specs.declared.Memo.{Memo}
 use Rattle.attempts.specs.declared.Counted.{Counted}
 use Rattle.attempts.specs.Marks.{blank, withCaches, nothingCounted, oneAttempt, oneAccepted, oneRejected}
 use Rattle.attempts.specs.Attempt.{Given, given, Scratch, scratch, Stopped, start, resume}
-use Rattle.rosenbrock.specs.declared.Fixed.{Fixed}
-use Rattle.rosenbrock.specs.declared.Progress.{Progress}
-use Rattle.rosenbrock.specs.Requests.{askOf, requestAfter, stageAfter}
-use Rattle.rosenbrock.specs.Answers.{Lent, lending, Answer, refused, done, candidateOf, answerOf}
-use Rattle.rosenbrock.specs.Tests.{attemptTests, stepTests, supplyTests, failTests, decisionTests, injectTests, resetTests}
+use Rattle.refusals.specs.declared.Fixed.{Fixed}
+use Rattle.refusals.specs.declared.Progress.{Progress}
+use Rattle.refusals.specs.Requests.{askOf, requestAfter, stageAfter}
+use Rattle.refusals.specs.Answers.{Lent, lending, Answer, refused, done, candidateOf, answerOf}
+use Rattle.refusals.specs.Tests.{attemptTests, stepTests, supplyTests, failTests, decisionTests, injectTests, resetTests}
 
 -- what a call leaves
 pub record Out : Type 0 where
@@ -41,11 +42,10 @@ guarded tests x m o = unlessRefused (refusal x m) (firstOf tests) o
 
 -- ---- an open attempt
 
--- what it reads
-unfoldable pub givenBy : Fixed → List ℕ → Progress → Lent → Given
-givenBy fx file x m =
-    given
-    (record {
+-- what it reads of the record
+abbrev pub settingBy : Fixed → Progress → Setting
+settingBy fx x =
+    record {
       n = fx .n;
       s = fx .s;
       policy = fx .policy;
@@ -53,8 +53,11 @@ givenBy fx file x m =
       step = x .step;
       «host_jacobian» = x .«host_jacobian»;
       «host_time_partial» = x .«host_time_partial»;
-    })
-    (tableauOf file) (m .state)
+    }
+
+-- and of the rest
+unfoldable pub givenBy : Fixed → List ℕ → Progress → Lent → Given
+givenBy fx file x m = given (settingBy fx x) (tableauOf file) (m .state)
 
 -- what it may change, with what the call has counted so far
 unfoldable pub scratchBy : Counted → Progress → Lent → Scratch

@@ -1,25 +1,17 @@
 -- What the code hands back, in the terms of the definitions: record and lent memory as a system, and the answer with what it asks or shows.
 -- Definitions only.
-use Prim.Native.Nat.{ℕ, min}
-use mathlib.Core.Bool.{Bool, false, not}
-use mathlib.Core.List.{List, [], _∷_}
-use lib.ListN.{length}
-use lib.Dec.{eqb}
+use Prim.Native.Nat.{ℕ}
+use mathlib.Core.Bool.{Bool, false}
+use mathlib.Core.List.{List}
 use lib.Ieee.{Float}
-use Rattle.stepping.specs.Refusals.{dimension, unsupportedTableau, tableauFile, pivotRange, Test, _when_}
 use Rattle.time_difference.specs.declared.TimeDifferencePolicy.{TimeDifferencePolicy}
-use Rattle.tableau.specs.Tableau.{stagesOf}
-use Rattle.tableau.specs.File.{tableauOf, accepts}
-use Rattle.stages.specs.Layout.{neededWork}
-use Rattle.attempts.specs.declared.Setting.{Setting}
 use Rattle.attempts.specs.declared.Memo.{Memo}
 use Rattle.attempts.specs.declared.Marks.{Marks}
 use Rattle.attempts.specs.declared.Ending.{Ending}
 use Rattle.attempts.specs.declared.Ending.the-variants.{Asks, Ends, Shows}
 use Rattle.attempts.specs.declared.Stop.{Stop}
-use Rattle.attempts.specs.Attempt.{wanted}
-use Rattle.rosenbrock.specs.declared.Fixed.{Fixed}
-use Rattle.rosenbrock.specs.declared.Progress.{Progress}
+use Rattle.refusals.specs.declared.Fixed.{Fixed}
+use Rattle.refusals.specs.declared.Progress.{Progress}
 use Rattle.rosenbrock.specs.declared.StepStatistics.{StepStatistics}
 use Rattle.rosenbrock.specs.declared.RosenbrockStepper.{RosenbrockStepper}
 use Rattle.rosenbrock.specs.declared.Answer as code
@@ -27,11 +19,10 @@ use Rattle.rosenbrock.specs.declared.Answer.the-variants.{Asked, Shown, 
 use Rattle.rosenbrock.specs.declared.Outcome.{Outcome}
 use Rattle.rosenbrock.specs.declared.Making.{Making}
 use Rattle.rosenbrock.specs.declared.Making.the-variants as making
-use Rattle.rosenbrock.specs.Requests.{askOf, requestAfter, stageAfter}
-use Rattle.rosenbrock.specs.Answers.{Lent, lending, Answer, refused, asked, shown, done, requestOf, viewOf}
-use Rattle.rosenbrock.specs.Tests.{shapeFits, sizeTests, finiteTest, pivotsUnfit}
-use Rattle.rosenbrock.specs.Calls.{Out, progressAfter}
-use Rattle.rosenbrock.specs.Stepper.{System, tallied, needed, trimmed, untrimmed, Next, Made, not-made, made, make}
+use Rattle.refusals.specs.Requests.{askOf, requestAfter, stageAfter}
+use Rattle.refusals.specs.Answers.{Lent, lending, Answer, refused, asked, shown, done, requestOf, viewOf}
+use Rattle.rosenbrock.specs.Calls.{progressAfter}
+use Rattle.rosenbrock.specs.Stepper.{System, tallied, needed, trimmed, Next, Made, not-made, made, make}
 
 -- a record with the memory lent to it
 abbrev pub systemOf : RosenbrockStepper → List Float → List Float → List ℕ → System
@@ -73,53 +64,6 @@ madeBy (making.Made y) state work pivots = afterMaking (made (systemOf y state w
 madeBy (making.Refused k) state work pivots = afterMaking (not-made k) (lending state work pivots)
 
 -- ---- parts of the calls, as the code has them
-
--- a record and its memory as a call leaves them
-unfoldable pub nextBy : RosenbrockStepper → Lent → Out → Next
-nextBy y m o =
-    record {
-      system =
-          record {
-            stepper = record { fixed = y .fixed; progress = o .progress; statistics = tallied (o .counted) (y .statistics) };
-            lent = untrimmed (needed (y .fixed)) m (o .lent);
-          };
-      answer = o .answer;
-    }
-
--- the first tests, from the lengths as they are lent
-abbrev pub lentTests : Fixed → Progress → ℕ → ℕ → ℕ → List Test
-lentTests fx x state work pivots = sizeTests (fx .n) (fx .s) (x .request) (x .stage) state (min (neededWork (fx .n) (fx .s)) work) pivots
-
--- a making's tests
-abbrev pub newTests : List ℕ → Float → List Float → ℕ → ℕ → List Test
-newTests file time state work pivots =
-    let n = length state in
-    let s = stagesOf (tableauOf file) in
-    (tableauFile when not (accepts file))
-    ∷ (dimension when not (shapeFits n s n (min (neededWork n s) work) pivots))
-    ∷ finiteTest state
-    ∷ finiteTest (time ∷ [])
-    ∷ (unsupportedTableau when eqb (tableauOf file .counts .kind) 1)
-    ∷ []
-
--- those of what is supplied, from its length
-abbrev pub answerTests : Fixed → Progress → ℕ → List ℕ → List Test
-answerTests fx x values pivots =
-    let a = askOf (x .request) (x .stage) in
-    (dimension when not (eqb values (wanted (fx .n) a))) ∷ (pivotRange when pivotsUnfit (fx .n) pivots a) ∷ []
-
--- what an open attempt reads of the record
-unfoldable pub settingBy : Fixed → Progress → Setting
-settingBy fx x =
-    record {
-      n = fx .n;
-      s = fx .s;
-      policy = fx .policy;
-      time = x .time;
-      step = x .step;
-      «host_jacobian» = x .«host_jacobian»;
-      «host_time_partial» = x .«host_time_partial»;
-    }
 
 -- its marks as a call hands them over; an attempt counts itself
 unfoldable pub marksBy : Memo → Bool → Marks

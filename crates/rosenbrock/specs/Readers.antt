@@ -10,11 +10,11 @@ use Rattle.vector.specs.Parts.{part}
 use Rattle.stepping.specs.Refusals.{dimension, Test, _when_}
 use Rattle.stages.specs.Layout.{currentAt, stageAt, rhsStageAt}
 use Rattle.attempts.specs.Marks.{nothingCounted}
-use Rattle.rosenbrock.specs.declared.Fixed.{Fixed}
-use Rattle.rosenbrock.specs.declared.Progress.{Progress}
-use Rattle.rosenbrock.specs.Requests.{askOf}
-use Rattle.rosenbrock.specs.Answers.{Lent, Reply, number, vector, absent, request, statistics, told, requestOf, candidateOf, errorShown, stagesShown, rhsStagesShown, jacobianShown, timePartialShown}
-use Rattle.rosenbrock.specs.Tests.{fitTests, openTest, candidateTest, requestTest}
+use Rattle.refusals.specs.declared.Fixed.{Fixed}
+use Rattle.refusals.specs.declared.Progress.{Progress}
+use Rattle.refusals.specs.Requests.{askOf}
+use Rattle.refusals.specs.Answers.{Lent, Reply, number, vector, absent, request, statistics, told, requestOf, candidateOf, errorShown, stagesShown, rhsStagesShown, jacobianShown, timePartialShown}
+use Rattle.refusals.specs.Tests.{fitTests, openTest, candidateTest, requestTest}
 use Rattle.rosenbrock.specs.Calls.{Out, guarded}
 
 pub data Query : Type 0 where

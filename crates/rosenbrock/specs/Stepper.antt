@@ -11,12 +11,12 @@ use Rattle.tableau.specs.Tableau.{stagesOf}
 use Rattle.tableau.specs.File.{tableauOf}
 use Rattle.stages.specs.Layout.{neededWork}
 use Rattle.attempts.specs.declared.Counted.{Counted}
-use Rattle.rosenbrock.specs.declared.Fixed.{Fixed}
-use Rattle.rosenbrock.specs.declared.Progress.{Progress}
+use Rattle.refusals.specs.declared.Fixed.{Fixed}
+use Rattle.refusals.specs.declared.Progress.{Progress}
 use Rattle.rosenbrock.specs.declared.StepStatistics.{StepStatistics}
 use Rattle.rosenbrock.specs.declared.RosenbrockStepper.{RosenbrockStepper}
-use Rattle.rosenbrock.specs.Answers.{Lent, lending, Answer}
-use Rattle.rosenbrock.specs.Tests.{makingTests}
+use Rattle.refusals.specs.Answers.{Lent, lending, Answer}
+use Rattle.refusals.specs.Tests.{makingTests}
 use Rattle.rosenbrock.specs.Calls.{Out, attemptOf, attemptToOf, supplyOf, failOf, acceptOf, rejectOf, injectOf, resetOf, fresh, cleared}
 use Rattle.rosenbrock.specs.Readers.{Query, readOf}
 
@@ -101,19 +101,21 @@ pub record Next : Type 0 where
 unfoldable pub result : Call → System → Out
 result c y = let fx = y .stepper .fixed in called fx c (y .stepper .progress) (trimmed (needed fx) (y .lent))
 
--- a call on a stepper: what it leaves, and what it answers
-unfoldable pub stepped : Call → System → Next
-stepped c y =
-    let fx = y .stepper .fixed in
-    let o = result c y in
+-- the record and its memory as a call leaves them
+abbrev pub nextBy : RosenbrockStepper → Lent → Out → Next
+nextBy y m o =
     record {
       system =
           record {
-            stepper = record { fixed = fx; progress = o .progress; statistics = tallied (o .counted) (y .stepper .statistics) };
-            lent = untrimmed (needed fx) (y .lent) (o .lent);
+            stepper = record { fixed = y .fixed; progress = o .progress; statistics = tallied (o .counted) (y .statistics) };
+            lent = untrimmed (needed (y .fixed)) m (o .lent);
           };
       answer = o .answer;
     }
+
+-- a call on a stepper: what it leaves, and what it answers
+unfoldable pub stepped : Call → System → Next
+stepped c y = nextBy (y .stepper) (y .lent) (result c y)
 
 -- ---- the making
 

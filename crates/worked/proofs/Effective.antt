@@ -8,7 +8,7 @@ use lib.ListN.{take}
 use lib.Ieee.{Float}
 use Rattle.stepping.specs.Refusals.{direction}
 use Rattle.time_difference.specs.Policy.{defaultPolicy}
-use Rattle.rosenbrock.specs.Answers.{View, derivative, jacobian, timePartial, refused, shown, done}
+use Rattle.refusals.specs.Answers.{View, derivative, jacobian, timePartial, refused, shown, done}
 use Rattle.rosenbrock.specs.Stepper.{Call, attempt, attempt-to, supply, accept, in-place, System, make, made, madeOf}
 use Rattle.lists.specs.Run.{Accepted, after, run}
 use Rattle.worked.proofs.Opened.{computing}

@@ -23,9 +23,9 @@ use Rattle.differentiation.specs.Differences as differences
 use Rattle.differentiation.specs.Memory as differenced
 use Rattle.attempts.specs.Marks as marks
 use Rattle.attempts.specs.Attempt as attempt
-use Rattle.rosenbrock.specs.Requests as requests
-use Rattle.rosenbrock.specs.Answers as answers
-use Rattle.rosenbrock.specs.Tests as tests
+use Rattle.refusals.specs.Requests as requests
+use Rattle.refusals.specs.Answers as answers
+use Rattle.refusals.specs.Tests as tests
 use Rattle.rosenbrock.specs.Calls as call
 use Rattle.rosenbrock.specs.Stepper as stepper
 use Rattle.lists.specs.Run as run

@@ -2,7 +2,7 @@
 use Prim.Native.Nat.{ℕ}
 use mathlib.Core.List.{List}
 use lib.Ieee.{Float, binary64, ofBits}
-use Rattle.rosenbrock.specs.Answers.{Kind, Answer, asked}
+use Rattle.refusals.specs.Answers.{Kind, Answer, asked}
 use Rattle.lists.specs.Run.{Accepted, Seen}
 
 -- the double of 64 bits

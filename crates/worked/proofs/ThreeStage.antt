@@ -10,7 +10,7 @@ use lib.ListN.{replicate}
 use lib.Ieee.{Float}
 use Rattle.time_difference.specs.Policy.{defaultPolicy}
 use Rattle.tableau.specs.File.{fileOf}
-use Rattle.rosenbrock.specs.Answers.{Lent, View, derivative, jacobian, timePartial, shown, done}
+use Rattle.refusals.specs.Answers.{Lent, View, derivative, jacobian, timePartial, shown, done}
 use Rattle.rosenbrock.specs.Stepper.{Call, attempt, supply, accept, inject-derivative, in-place, System, make, made, madeOf}
 use Rattle.lists.specs.Run.{Accepted, run}
 use Rattle.worked.proofs.Opened.{computing}

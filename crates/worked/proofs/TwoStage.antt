@@ -9,7 +9,7 @@ use lib.ListN.{replicate, take}
 use lib.Ieee.{Float}
 use Rattle.time_difference.specs.Policy.{defaultPolicy}
 use Rattle.tableau.specs.File.{fileOf}
-use Rattle.rosenbrock.specs.Answers.{Lent, View, derivative, shown, done}
+use Rattle.refusals.specs.Answers.{Lent, View, derivative, shown, done}
 use Rattle.rosenbrock.specs.Stepper.{Call, attempt, supply, accept, reject, by-value, in-place, System, make, made, madeOf}
 use Rattle.lists.specs.Run.{Accepted, after, run}
 use Rattle.worked.proofs.Opened.{computing}

@@ -1,5 +1,6 @@
 //! The port's time beside the original's, call by call, in one run: the same inputs, batches of the
-//! two by turns, the median of each. It prints, and judges nothing.
+//! two by turns, the median of each. It prints, and judges nothing. Words that it is handed choose the
+//! calls whose names have them all.
 use differential_equations::stepping as original;
 use differential_equations::tableau as original_tableau;
 use std::hint::black_box;
@@ -101,6 +102,9 @@ fn beside<I, T, U>(
     mut port: impl FnMut(&I) -> T,
     mut original: impl FnMut(&I) -> U,
 ) {
+    if !std::env::args().skip(1).all(|word| name.contains(&word)) {
+        return;
+    }
     let (mut ports, mut originals) = (Vec::new(), Vec::new());
     for _ in 0..BATCHES {
         ports.push(batch(inputs, &mut port));

@@ -69,6 +69,7 @@ pub fn needed_work(n: usize, s: usize) -> usize {
 }
 
 /// Takes over the record that a call hands back.
+#[inline]
 fn told(record: &mut Record, answer: StepperAnswer) -> Answer {
     *record = answer.stepper;
     match answer.kind {
@@ -99,6 +100,7 @@ pub fn new(file: &[u8], policy: Policy, time: f64, lent: Lent<'_>) -> Result<Rec
     Failure::unless_0(answer.number).map(|()| answer.stepper)
 }
 
+#[inline]
 pub fn attempt(
     record: &mut Record,
     file: &[u8],
@@ -125,6 +127,7 @@ pub fn attempt(
     told(record, answer)
 }
 
+#[inline]
 pub fn attempt_to(
     record: &mut Record,
     file: &[u8],
@@ -154,6 +157,7 @@ pub fn attempt_to(
 }
 
 /// Supplies what is asked for.
+#[inline]
 pub fn supply(record: &mut Record, file: &[u8], values: &[f64], lent: Lent<'_>) -> Answer {
     let answer = unsafe {
         ffi::wiqhano_stepper_supply(
@@ -174,6 +178,7 @@ pub fn supply(record: &mut Record, file: &[u8], values: &[f64], lent: Lent<'_>) 
 }
 
 /// Reports that the host failed to work out what is asked for.
+#[inline]
 pub fn fail(record: &mut Record, lent: Lent<'_>) -> Answer {
     let answer = unsafe {
         ffi::wiqhano_stepper_fail(
@@ -189,6 +194,7 @@ pub fn fail(record: &mut Record, lent: Lent<'_>) -> Answer {
     told(record, answer)
 }
 
+#[inline]
 pub fn accept(record: &mut Record, lent: Lent<'_>) -> Answer {
     let answer = unsafe {
         ffi::wiqhano_stepper_accept(
@@ -204,6 +210,7 @@ pub fn accept(record: &mut Record, lent: Lent<'_>) -> Answer {
     told(record, answer)
 }
 
+#[inline]
 pub fn reject(record: &mut Record, lent: Lent<'_>) -> Answer {
     let answer = unsafe {
         ffi::wiqhano_stepper_reject(
@@ -219,6 +226,7 @@ pub fn reject(record: &mut Record, lent: Lent<'_>) -> Answer {
     told(record, answer)
 }
 
+#[inline]
 pub fn inject_derivative(record: &mut Record, derivative: &[f64], lent: Lent<'_>) -> Answer {
     let answer = unsafe {
         ffi::wiqhano_stepper_inject_derivative(
@@ -237,6 +245,7 @@ pub fn inject_derivative(record: &mut Record, derivative: &[f64], lent: Lent<'_>
 }
 
 /// `values`: the new accepted state.
+#[inline]
 pub fn reset(record: &mut Record, time: f64, values: &[f64], lent: Lent<'_>) -> Answer {
     let answer = unsafe {
         ffi::wiqhano_stepper_reset(

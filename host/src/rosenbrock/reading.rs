@@ -43,6 +43,7 @@ pub(crate) struct Request<'a> {
     pub wanted: usize,
 }
 
+#[inline]
 pub(crate) fn request<'a>(record: &Record, memory: &'a Memory) -> Option<Request<'a>> {
     let ask = Ask::of(record)?;
     let n = record.fixed.n;

@@ -2,8 +2,8 @@
 use mathlib.Core.Path.{refl}
 use denote.Ref.{now}
 use native.Mathlib.Omega.{arith}
-use Rattle.rosenbrock.proofs.Tested.{vectors-in}
-use Rattle.rosenbrock.specs.Answers.{candidateOf}
+use Rattle.refusals.proofs.Tested.{vectors-in}
+use Rattle.refusals.specs.Answers.{candidateOf}
 use Rattle.rosenbrock.specs.Readers.{the-candidate, queryTests, reply}
 use Rattle.readers.specs.Telling.{tells}
 use Rattle.readers.proofs.Tellings.{read-refused, read-part}

@@ -4,7 +4,7 @@ use denote.Ref.{now}
 use Prim.Native.Nat.{_*_}
 use mathlib.Core.Bool.{true, false}
 use native.Mathlib.Omega.{arith}
-use Rattle.rosenbrock.proofs.Tested.{vectors-in}
+use Rattle.refusals.proofs.Tested.{vectors-in}
 use Rattle.rosenbrock.specs.Readers.{derivativeCached}
 use Rattle.rosenbrock.specs.Readers.{optional}
 use Rattle.rosenbrock.specs.Readers.{the-derivative, queryTests, reply}

@@ -3,8 +3,8 @@ use mathlib.Core.Path.{_≡_, refl}
 use denote.Ref.{now}
 use mathlib.Core.Bool.{true, false}
 use native.Mathlib.Omega.{arith}
-use Rattle.rosenbrock.proofs.Tested.{vectors-in}
-use Rattle.rosenbrock.specs.Answers.{errorShown}
+use Rattle.refusals.proofs.Tested.{vectors-in}
+use Rattle.refusals.specs.Answers.{errorShown}
 use Rattle.rosenbrock.specs.Readers.{optional}
 use Rattle.rosenbrock.specs.Readers.{the-error, queryTests, reply}
 use Rattle.readers.specs.Telling.{tells}

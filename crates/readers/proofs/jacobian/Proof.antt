@@ -4,7 +4,7 @@ use denote.Ref.{now}
 use Prim.Native.Nat.{_*_}
 use native.Mathlib.Omega.{arith}
 use native.Mathlib.Nat.{mul-le-mul}
-use Rattle.rosenbrock.specs.Answers.{jacobianShown}
+use Rattle.refusals.specs.Answers.{jacobianShown}
 use Rattle.rosenbrock.specs.Readers.{the-jacobian, queryTests, reply}
 use Rattle.readers.specs.Telling.{tells}
 use Rattle.readers.proofs.Tellings.{jacobian-in, read-refused, read-shape, read-shown}

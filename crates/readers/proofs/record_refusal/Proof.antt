@@ -1,7 +1,7 @@
 -- `readers::record_refusal` meets its contract: test by test. Assumes nothing.
 use mathlib.Core.List.{[]}
 use Rattle.stepping.proofs.Refusals.{here, later, none}
-use Rattle.rosenbrock.proofs.Tested.{unfit, fit, is-open, not-open}
+use Rattle.refusals.proofs.Tested.{unfit, fit, is-open, not-open}
 use Rattle.readers.proofs.record_refusal.Statement.{statement}
 use Rattle.readers.proofs.record_refusal.Tie as tie
 

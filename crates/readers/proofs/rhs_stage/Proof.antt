@@ -5,7 +5,7 @@ use native.Mathlib.Omega.{arith}
 use mathlib.Core.Path.{refl, _∙_}
 use denote.Ref.{now}
 use Rattle.stages.specs.Layout.{rhsStageAt}
-use Rattle.rosenbrock.specs.Answers.{lending}
+use Rattle.refusals.specs.Answers.{lending}
 use Rattle.rosenbrock.specs.Readers.{the-rhs-stage, queryTests, reply}
 use Rattle.readers.specs.declared.Told.the-variants.{Part}
 use Rattle.readers.specs.Telling.{tells}

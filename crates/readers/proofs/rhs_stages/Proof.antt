@@ -4,7 +4,7 @@ use mathlib.Core.Path.{refl}
 use denote.Ref.{now}
 use Prim.Native.Nat.{_+_, _*_}
 use Rattle.stages.specs.Layout.{rhsStagesAt}
-use Rattle.rosenbrock.specs.Answers.{rhsStagesShown}
+use Rattle.refusals.specs.Answers.{rhsStagesShown}
 use Rattle.rosenbrock.specs.Readers.{the-rhs-stages, queryTests, reply}
 use Rattle.readers.specs.Telling.{tells}
 use Rattle.readers.proofs.Tellings.{rhs-stages-in, read-refused, read-shape, read-shown}

@@ -3,7 +3,7 @@ use mathlib.Core.Path.{refl}
 use denote.Ref.{now}
 use Prim.Native.Nat.{_*_}
 use Rattle.stages.specs.Layout.{stagesAt}
-use Rattle.rosenbrock.specs.Answers.{stagesShown}
+use Rattle.refusals.specs.Answers.{stagesShown}
 use Rattle.rosenbrock.specs.Readers.{the-stages, queryTests, reply}
 use Rattle.readers.specs.Telling.{tells}
 use Rattle.readers.proofs.Tellings.{stages-in, read-refused, read-shape, read-shown}

@@ -3,8 +3,8 @@ use mathlib.Core.Path.{refl}
 use denote.Ref.{now}
 use Prim.Native.Nat.{_*_}
 use native.Mathlib.Omega.{arith}
-use Rattle.rosenbrock.proofs.Tested.{vectors-in}
-use Rattle.rosenbrock.specs.Answers.{timePartialShown}
+use Rattle.refusals.proofs.Tested.{vectors-in}
+use Rattle.refusals.specs.Answers.{timePartialShown}
 use Rattle.rosenbrock.specs.Readers.{the-time-partial, queryTests, reply}
 use Rattle.readers.specs.Telling.{tells}
 use Rattle.readers.proofs.Tellings.{read-refused, read-shape, read-shown}

@@ -1,7 +1,7 @@
 -- `rosenbrock::ask_number` meets its contract: case by case. Assumes nothing.
 use borrow.Author.Needs.{needs}
 use mathlib.Core.Path.{sym, ap}
-use Rattle.rosenbrock.specs.Requests.{askNumber}
+use Rattle.refusals.specs.Requests.{askNumber}
 use Rattle.rosenbrock.proofs.ask_number.Statement.{statement}
 use Rattle.rosenbrock.proofs.ask_number.Tie as tie
 

@@ -2,7 +2,7 @@
 use mathlib.Core.Path.{refl}
 use borrow.Author.Tests.{eq-eqb, ne-eqb}
 use Rattle.float.proofs.Cases.{yes, no}
-use Rattle.rosenbrock.specs.Requests.{askOf}
+use Rattle.refusals.specs.Requests.{askOf}
 use Rattle.rosenbrock.proofs.ask_of.Statement.{statement}
 use Rattle.rosenbrock.proofs.ask_of.Tie as tie
 

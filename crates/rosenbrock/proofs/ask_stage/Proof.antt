@@ -1,7 +1,7 @@
 -- `rosenbrock::ask_stage` meets its contract: case by case. Assumes nothing.
 use borrow.Author.Needs.{needs}
 use mathlib.Core.Path.{sym, ap}
-use Rattle.rosenbrock.specs.Requests.{askStage}
+use Rattle.refusals.specs.Requests.{askStage}
 use Rattle.rosenbrock.proofs.ask_stage.Statement.{statement}
 use Rattle.rosenbrock.proofs.ask_stage.Tie as tie
 

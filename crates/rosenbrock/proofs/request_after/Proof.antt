@@ -1,7 +1,7 @@
 -- `rosenbrock::request_after` meets its contract: case by case. Assumes nothing.
 use borrow.Author.Needs.{needs}
 use mathlib.Core.Path.{sym, ap, _∙_}
-use Rattle.rosenbrock.specs.Requests.{requestAfter}
+use Rattle.refusals.specs.Requests.{requestAfter}
 use Rattle.rosenbrock.proofs.request_after.Statement.{statement}
 use Rattle.rosenbrock.proofs.request_after.Tie as tie
 

@@ -1,11 +1,10 @@
 -- `rosenbrock::setting_of` meets its contract. Assumes nothing.
 use mathlib.Core.Path.{refl}
-use Rattle.rosenbrock.specs.Contracts.{settingBy}
+use Rattle.rosenbrock.specs.Calls.{settingBy}
 use Rattle.rosenbrock.proofs.setting_of.Statement.{statement}
 use Rattle.rosenbrock.proofs.setting_of.Tie as tie
 
 returns : tie.Need-returns
-unfolding settingBy
 returns c = refl
 
 pub setting-of-spec : {M : Type 1} → statement M

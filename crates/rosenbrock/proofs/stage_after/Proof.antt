@@ -1,7 +1,7 @@
 -- `rosenbrock::stage_after` meets its contract: case by case. Assumes nothing.
 use borrow.Author.Needs.{needs}
 use mathlib.Core.Path.{sym, ap, _∙_}
-use Rattle.rosenbrock.specs.Requests.{stageAfter}
+use Rattle.refusals.specs.Requests.{stageAfter}
 use Rattle.rosenbrock.proofs.stage_after.Statement.{statement}
 use Rattle.rosenbrock.proofs.stage_after.Tie as tie
 

@@ -1,7 +1,7 @@
 -- `rosenbrock::RosenbrockStepper::attempt` meets its contract. Assumes nothing.
 use borrow.Author.Needs.{needs}
 use denote.Ref.{now}
-use Rattle.rosenbrock.proofs.Fitting.{shape-fits}
+use Rattle.refusals.proofs.Fitting.{shape-fits}
 use Rattle.rosenbrock.proofs.Attempts.{attempt-refused, attempt-shape, attempt-done}
 use Rattle.rosenbrock.proofs.RosenbrockStepper.attempt.Statement.{statement}
 use Rattle.rosenbrock.proofs.RosenbrockStepper.attempt.Tie as tie

@@ -3,7 +3,7 @@ use borrow.Author.Needs.{needs}
 use mathlib.Core.Path.{sym}
 use denote.Ref.{now}
 use lib.Seq.{length-take-le}
-use Rattle.rosenbrock.proofs.Fitting.{shape-of}
+use Rattle.refusals.proofs.Fitting.{shape-of}
 use Rattle.rosenbrock.proofs.Attempts.{step-refused, work-lent, sized, step-opened}
 use Rattle.rosenbrock.proofs.RosenbrockStepper.attempt_by.Statement.{statement}
 use Rattle.rosenbrock.proofs.RosenbrockStepper.attempt_by.Tie as tie

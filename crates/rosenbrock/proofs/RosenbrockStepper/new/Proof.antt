@@ -3,7 +3,7 @@ use borrow.Author.Needs.{needs}
 use mathlib.Core.Path.{sym}
 use denote.Ref.{now}
 use lib.Seq.{length-take-le}
-use Rattle.rosenbrock.proofs.Tested.{lent-work}
+use Rattle.refusals.proofs.Tested.{lent-work}
 use Rattle.rosenbrock.proofs.Makings.{new-refused, new-shape, new-made}
 use Rattle.rosenbrock.proofs.RosenbrockStepper.new.Statement.{statement}
 use Rattle.rosenbrock.proofs.RosenbrockStepper.new.Tie as tie
