@@ -1,6 +1,7 @@
 -- What the host's code does is what the definitions say, case by case. Assumes nothing.
 use Prim.Native.Nat.{ℕ, _+_, _≤_, _<_}
 use mathlib.Core.Path.{_≡_, refl, sym, ap, _∙_}
+use mathlib.Core.Bool.{true}
 use mathlib.Core.List.{List, [], _∷_}
 use native.Mathlib.Nat.{add-zero}
 use native.Mathlib.Numerals.{add-one}
@@ -8,6 +9,7 @@ use native.Mathlib.Omega.{arith}
 use lib.ListN.{length, take, drop, getD, drop-of-length-le, List·getD-eq-default}
 use lib.Seq.{getD-take, getD-drop, take-nil}
 use lib.Ieee.{Float, binary64, nan, div, ofBits}
+use Rattle.float.specs.Operators.{𝟏}
 use Rattle.vector.specs.Lists.{el}
 use Rattle.vector.specs.Parts.{part}
 use Rattle.rosenbrock.specs.declared.Fixed.{Fixed}
@@ -17,13 +19,13 @@ use Rattle.rosenbrock.specs.declared.Answer.the-variants.{Asked, Shown, Done, R
 use Rattle.rosenbrock.specs.declared.Outcome.{Outcome}
 use Rattle.rosenbrock.specs.Answers.{Lent, lending, Kind, derivative, jacobian, timePartial, Answer}
 use Rattle.rosenbrock.specs.Readers.{the-request}
-use Rattle.rosenbrock.specs.Stepper.{supply, accept, read, by-value, needed, trimmed, Next, stepped}
+use Rattle.rosenbrock.specs.Stepper.{attempt, supply, accept, read, by-value, needed, trimmed, System, Next, stepped}
 use Rattle.rosenbrock.specs.Contracts.{systemOf, nextOf, answerBy}
 use Rattle.readers.specs.declared.Kind as readers
 use Rattle.readers.specs.declared.Told.{Told}
 use Rattle.readers.specs.Telling.{kindBy, tells}
 use Rattle.method.specs.Conversation.{answerTo}
-use Rattle.decay.specs.Host.{decay, suppliedBy, ifAsked, answeredOnce, answered, ifShown, decided}
+use Rattle.decay.specs.Host.{decay, suppliedBy, ifAsked, answeredOnce, answered, ifShown, decided, oneStep}
 
 -- ---- a first component
 
@@ -96,3 +98,9 @@ module _ (o : Outcome) (s w : List Float) (p : List ℕ) where
   decided-kept e k =
       k (stepped (accept by-value) (systemOf (o .stepper) s w p)) (nextOf o s w p)
       ∙ ap (λ (a : code.Answer). ifShown (answering a) (stepped (accept by-value) (systemOf (o .stepper) s w p)) (nextOf o s w p)) (sym e)
+
+-- ---- a step
+
+pub in-turn : (file : List ℕ) (y : System) {a b c : Next} → a ≡ stepped (attempt file 𝟏 true true) y → b ≡ answered 11 file a → c ≡ decided b → c ≡ oneStep file y
+unfolding oneStep
+in-turn file y e f g = g ∙ ap decided (f ∙ ap (answered 11 file) e)

@@ -1,36 +1,22 @@
-// y' = -y with Jacobian -1 and time partial 0, stepped by 1: what the host supplies, a step, and the
-// line that is printed after it.
+// The host of pond: y' = -y with Jacobian -1 and time partial 0. It answers what the stepper asks, and
+// steps by 1.
 ghost use mathlib.Core.Path.{_≡_};
 ghost use mathlib.Core.List.{[], _∷_};
-ghost use lib.ListN.{take};
 ghost use Rattle.vector.specs.Lists.{el};
 ghost use Rattle.vector.specs.Parts.{part};
 ghost use Rattle.rosenbrock.specs.Answers.{lending};
 ghost use Rattle.rosenbrock.specs.Contracts.{systemOf, nextOf};
 ghost use Rattle.readers.specs.Telling.{kindBy, tells};
 ghost use Rattle.method.specs.Conversation.{answerTo};
-ghost use Rattle.io.specs.Counts.{Counts};
 ghost use Rattle.decay.specs.Host.{decay, suppliedBy, answeredOnce, answered, decided, oneStep};
-ghost use Rattle.decay.specs.Forecast.{pondOf, begun, advanced, lineBy};
 use readers::Kind;
 use readers::Told;
 use rosenbrock::Answer;
-use rosenbrock::Making;
 use rosenbrock::Outcome;
 use rosenbrock::RosenbrockStepper;
-use time_difference::TimeDifferencePolicy;
-
-// How far it is: a time and a state are reached, a refusal, or nothing more.
-pub enum Forecast {
-    Reached(RosenbrockStepper),
-    Refused(u32),
-    Over,
-}
-
-// ---- the host
 
 // The first component; a NaN where there is none.
-fn first(x: &[f64]) -> f64
+pub fn first(x: &[f64]) -> f64
     ensures { λ r. ⌜ r ≡ el (now (x .entry)) 0 ⌝ }
 {
     if x.len() == 0 {
@@ -146,8 +132,8 @@ fn decided(outcome: Outcome, state: &mut [f64], work: &[f64], pivots: &[usize]) 
     }
 }
 
-// One step by 1.
-fn one_step(
+// One step by 1: an attempt, what it asks answered, and accept.
+pub fn one_step(
     stepper: RosenbrockStepper,
     file: &[u8],
     state: &mut [f64],
@@ -160,103 +146,4 @@ fn one_step(
     let opened = stepper.attempt(file, 1.0, true, true, state, work, pivots);
     let last = answered(opened, file, state, work, pivots);
     decided(last, state, work, pivots)
-}
-
-// ---- the forecast
-
-// The making, at time 0.
-pub fn begin(file: &[u8], state: &[f64], work: &mut [f64], pivots: &mut [usize]) -> Forecast
-    ensures { λ r. ⌜ pondOf r (now (state .entry)) (now (work .exit)) (now (pivots .exit))
-        ≡ begun (now (file .entry)) (lending (now (state .entry)) (now (work .entry)) (now (pivots .entry))) ⌝ }
-{
-    match RosenbrockStepper::new(
-        file,
-        TimeDifferencePolicy::default(),
-        0.0,
-        state,
-        work,
-        pivots,
-    ) {
-        Making::Made(stepper) => Forecast::Reached(stepper),
-        Making::Refused(number) => Forecast::Refused(number),
-    }
-}
-
-// A step; nothing comes after a refusal.
-pub fn advance(
-    forecast: Forecast,
-    file: &[u8],
-    state: &mut [f64],
-    work: &mut [f64],
-    pivots: &mut [usize],
-) -> Forecast
-    ensures { λ r. ⌜ pondOf r (now (state .exit)) (now (work .exit)) (now (pivots .exit))
-        ≡ advanced (now (file .entry)) (pondOf forecast (now (state .entry)) (now (work .entry)) (now (pivots .entry))) ⌝ }
-{
-    match forecast {
-        Forecast::Reached(stepper) => {
-            let outcome = one_step(stepper, file, state, work, pivots);
-            let after = outcome.stepper;
-            let answer = outcome.answer;
-            match answer {
-                Answer::Done => Forecast::Reached(after),
-                Answer::Refused(number) => Forecast::Refused(number),
-                Answer::Asked => Forecast::Over,
-                Answer::Shown => Forecast::Over,
-            }
-        }
-        Forecast::Refused(number) => Forecast::Over,
-        Forecast::Over => Forecast::Over,
-    }
-}
-
-fn wide(number: u32) -> u64
-    ensures { λ r. ⌜ r ≡ number ⌝ }
-{
-    number as u64
-}
-
-// The line that is printed: its bytes from the start of out on. Answers how many.
-pub fn line(step: u64, forecast: Forecast, state: &[f64], out: &mut [u8; 64]) -> usize
-    ensures { λ r. ⌜ Counts r (now (out .exit)) × (take r (now (out .exit)) ≡ lineBy step forecast (now (state .entry))) ⌝ }
-{
-    match forecast {
-        Forecast::Reached(stepper) => {
-            let progress = stepper.progress;
-            return text::step_line(step, progress.time, first(state), out);
-        }
-        Forecast::Refused(number) => {
-            return text::refused_line(wide(number), out);
-        }
-        Forecast::Over => 0,
-    }
-}
-
-// ---- the program
-
-fn print(step: u64, forecast: Forecast, state: &[f64]) {
-    let mut text = [0u8; 64];
-    let count = line(step, forecast, state, &mut text);
-    io::write_all(libc::STDOUT_FILENO, &text[..count]);
-}
-
-// From y = 1 at time 0, twice by 1; each line is written once it is known.
-fn run(file: &[u8], work: &mut [f64]) {
-    let mut state = [1.0];
-    let mut pivots = [0usize];
-    let start = begin(file, &state[..], work, &mut pivots[..]);
-    print(0, start, &state[..]);
-    let first = advance(start, file, &mut state[..], work, &mut pivots[..]);
-    print(1, first, &state[..]);
-    let second = advance(first, file, &mut state[..], work, &mut pivots[..]);
-    print(2, second, &state[..]);
-}
-
-// The program pond: the header, then the tableau file from standard input, then the lines. No file is
-// longer than 760 bytes; a failed read counts as the end of the input.
-pub fn pond(work: &mut [f64]) {
-    io::write_all(libc::STDOUT_FILENO, b"step time state\n");
-    let mut input = [0u8; 761];
-    let count = io::read_full(libc::STDIN_FILENO, &mut input);
-    run(&input[..count], work);
 }

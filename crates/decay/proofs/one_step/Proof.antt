@@ -2,7 +2,7 @@
 use mathlib.Core.Path.{_∙_}
 use denote.Ref.{now}
 use Rattle.rosenbrock.specs.Contracts.{systemOf}
-use Rattle.decay.proofs.Lines.{in-turn}
+use Rattle.decay.proofs.Hosting.{in-turn}
 use borrow.Author.Needs.{needs}
 use Rattle.decay.proofs.one_step.Statement.{statement}
 use Rattle.decay.proofs.one_step.Tie as tie

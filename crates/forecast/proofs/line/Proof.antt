@@ -1,13 +1,13 @@
--- `decay::line` meets its contract. Assumes nothing.
+-- `forecast::line` meets its contract. Assumes nothing.
 use mathlib.Core.Path.{refl, ap, _∙_}
 use native.Mathlib.Omega.{arith}
 use denote.Ref.{now}
 use Rattle.text.specs.Lines.{stepLine, refusedLine}
-use Rattle.decay.specs.Forecast.{lineBy}
-use Rattle.decay.proofs.Lines.{line-known}
+use Rattle.forecast.specs.Pond.{lineBy}
+use Rattle.forecast.proofs.Cases.{line-known}
 use borrow.Author.Needs.{needs}
-use Rattle.decay.proofs.line.Statement.{statement}
-use Rattle.decay.proofs.line.Tie as tie
+use Rattle.forecast.proofs.line.Statement.{statement}
+use Rattle.forecast.proofs.line.Tie as tie
 
 enum-known-forecast : tie.Need-enum-known-forecast
 enum-known-forecast c = search needs

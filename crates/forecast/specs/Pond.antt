@@ -10,9 +10,9 @@ use Rattle.rosenbrock.specs.declared.RosenbrockStepper.{RosenbrockStepper}
 use Rattle.rosenbrock.specs.Answers.{Lent, lending, Answer, refused, asked, shown, told, done}
 use Rattle.rosenbrock.specs.Stepper.{System, Next, Made, not-made, made, make}
 use Rattle.text.specs.Lines.{stepLine, refusedLine}
-use Rattle.decay.specs.declared.Forecast.{Forecast}
-use Rattle.decay.specs.declared.Forecast.the-variants.{Reached, Refused, Over}
+use Rattle.forecast.specs.declared.Forecast.{Forecast}
+use Rattle.forecast.specs.declared.Forecast.the-variants.{Reached, Refused, Over}
 use Rattle.decay.specs.Host.{oneStep}
 
 -- how far it is, with the memory that is lent
 pub record Pond : Type 0 where

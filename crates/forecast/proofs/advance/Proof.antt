@@ -1,13 +1,13 @@
--- `decay::advance` meets its contract. Assumes nothing.
+-- `forecast::advance` meets its contract. Assumes nothing.
 use mathlib.Core.Path.{refl}
 use denote.Ref.{now}
 use Rattle.rosenbrock.specs.Answers.{lending}
 use Rattle.rosenbrock.specs.Contracts.{answerBy}
-use Rattle.decay.specs.Forecast.{standing, advancedBy}
-use Rattle.decay.proofs.Lines.{from, stands-at}
+use Rattle.forecast.specs.Pond.{standing, advancedBy}
+use Rattle.forecast.proofs.Cases.{from, stands-at}
 use borrow.Author.Needs.{needs}
-use Rattle.decay.proofs.advance.Statement.{statement}
-use Rattle.decay.proofs.advance.Tie as tie
+use Rattle.forecast.proofs.advance.Statement.{statement}
+use Rattle.forecast.proofs.advance.Tie as tie
 
 enum-known-forecast : tie.Need-enum-known-forecast
 enum-known-forecast c = search needs

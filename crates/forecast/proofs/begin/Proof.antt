@@ -1,10 +1,10 @@
--- `decay::begin` meets its contract. Assumes nothing.
+-- `forecast::begin` meets its contract. Assumes nothing.
 use denote.Ref.{now}
 use Rattle.rosenbrock.specs.Answers.{lending}
-use Rattle.decay.proofs.Lines.{begun-made, begun-refused}
+use Rattle.forecast.proofs.Cases.{begun-made, begun-refused}
 use borrow.Author.Needs.{needs}
-use Rattle.decay.proofs.begin.Statement.{statement}
-use Rattle.decay.proofs.begin.Tie as tie
+use Rattle.forecast.proofs.begin.Statement.{statement}
+use Rattle.forecast.proofs.begin.Tie as tie
 
 default-requires : tie.Need-default-requires
 default-requires c κs = search needs

@@ -1,10 +1,9 @@
 -- The making, a step and the line of a forecast, case by case. Assumes nothing.
 use Prim.Native.Nat.{ℕ}
 use mathlib.Core.Path.{_≡_, refl, sym, ap, _∙_}
-use mathlib.Core.Bool.{true}
 use mathlib.Core.List.{List}
 use lib.Ieee.{Float}
-use Rattle.float.specs.Operators.{𝟎, 𝟏}
+use Rattle.float.specs.Operators.{𝟎}
 use Rattle.time_difference.specs.declared.TimeDifferencePolicy.{TimeDifferencePolicy}
 use Rattle.time_difference.specs.Policy.{defaultPolicy}
 use Rattle.rosenbrock.specs.declared.RosenbrockStepper.{RosenbrockStepper}
@@ -13,12 +12,11 @@ use Rattle.rosenbrock.specs.declared.Outcome.{Outcome}
 use Rattle.rosenbrock.specs.declared.Making.{Making}
 use Rattle.rosenbrock.specs.declared.Making.the-variants as making
 use Rattle.rosenbrock.specs.Answers.{Lent, lending}
-use Rattle.rosenbrock.specs.Stepper.{attempt, System, Next, needed, trimmed, stepped, Made, not-made, made, make}
+use Rattle.rosenbrock.specs.Stepper.{Next, needed, trimmed, Made, not-made, made, make}
 use Rattle.rosenbrock.specs.Contracts.{answerBy, nextOf, AfterMaking, memoryAfter, makingOf, madeBy}
-use Rattle.decay.specs.declared.Forecast.{Forecast}
-use Rattle.decay.specs.declared.Forecast.the-variants.{Reached, Refused, Over}
-use Rattle.decay.specs.Forecast.{Pond, pondOf, afterMaking, begun, standing, afterStep, advancedBy, advanced, lineBy}
-use Rattle.decay.specs.Host.{answered, decided, oneStep}
+use Rattle.forecast.specs.declared.Forecast.{Forecast}
+use Rattle.forecast.specs.declared.Forecast.the-variants.{Reached, Refused, Over}
+use Rattle.forecast.specs.Pond.{Pond, pondOf, afterMaking, begun, standing, afterStep, advancedBy, advanced, lineBy}
 
 -- ---- the making
 
@@ -45,10 +43,6 @@ module _ (file : List ℕ) (m : Lent) (s w : List Float) (p : List ℕ) (r : Mak
   begun-refused h d e = ap (λ (q : Making). after (madeBy q s w p)) (sym h) ∙ begun-by d e
 
 -- ---- a step
-
-pub in-turn : (file : List ℕ) (y : System) {a b c : Next} → a ≡ stepped (attempt file 𝟏 true true) y → b ≡ answered 11 file a → c ≡ decided b → c ≡ oneStep file y
-unfolding oneStep
-in-turn file y e f g = g ∙ ap decided (f ∙ ap (answered 11 file) e)
 
 pub from : (f : Forecast) {g : Forecast} (file : List ℕ) (m : Lent) {r : Pond} → f ≡ g → r ≡ advancedBy g file m → r ≡ advanced file (record { forecast = f; lent = m })
 unfolding advanced
