@@ -1,6 +1,6 @@
--- Demand3 has the theorems; the others lead to them.
+-- Demand3 has the theorems; the others lead to them. Dependents may cite Steady too.
 mod Alike
 mod Fresh
 mod Booked
-mod Steady
+pub mod Steady
 pub mod Demand3

@@ -41,7 +41,7 @@ shape-after fx m o h l e =
     }
 
 module _ (fx : Fixed) where
-  abbrev FitsAfter : Out → Type 0
+  abbrev pub FitsAfter : Out → Type 0
   FitsAfter o = Fits fx (o .progress) (o .lent)
 
   guarded-fits : (tests : List Test) (x : Progress) (m : Lent) (o : Out) → Fits fx x m → (firstOf tests ≡ 0 → FitsAfter o) → FitsAfter (guarded tests x m o)
@@ -88,7 +88,7 @@ module _ (fx : Fixed) where
   restarted-fits time state m h e =
       record { shape = shape-after fx m (restarted time state m) h (restarted-keeps time state m) e; request = nothing-fits (fx .n) (fx .s) }
 
-  called-fits : (c : Call) (x : Progress) (m : Lent) → Fits fx x m → FitsAfter (called fx c x m)
+  pub called-fits : (c : Call) (x : Progress) (m : Lent) → Fits fx x m → FitsAfter (called fx c x m)
   unfolding called attemptOf attemptToOf supplyOf givenBy failOf acceptOf rejectOf injectOf resetOf readOf answered
   called-fits (attempt file step jacobian partial) x m h = guarded-fits _ x m _ h (λ _. attemptBy-fits file step jacobian partial x m h)
   called-fits (attempt-to file endpoint proposal jacobian partial) x m h = guarded-fits _ x m _ h (λ _. towards-fits _ file jacobian partial x m h)

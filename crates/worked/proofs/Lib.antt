@@ -5,3 +5,4 @@ pub mod Pond
 pub mod Effective
 pub mod TwoStage
 pub mod ThreeStage
+pub mod Printed

@@ -1,0 +1,3 @@
+mod Counted
+mod Talking
+pub mod Ends
