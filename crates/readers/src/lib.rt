@@ -217,7 +217,7 @@ pub fn start(stepper: RosenbrockStepper, state: &[f64], work: &[f64], pivots: &[
 {
     let fixed = stepper.fixed;
     let progress = stepper.progress;
-    let time = progress.time;
+    let start = progress.time;
     let number = rosenbrock::decision_refusal(
         fixed,
         progress,
@@ -228,7 +228,7 @@ pub fn start(stepper: RosenbrockStepper, state: &[f64], work: &[f64], pivots: &[
     if number != 0 {
         return Told::Refused(number);
     }
-    Told::Number(time)
+    Told::Number(start)
 }
 
 pub fn end(stepper: RosenbrockStepper, state: &[f64], work: &[f64], pivots: &[usize]) -> Told
@@ -471,9 +471,9 @@ pub fn copy_state_into(
     if number != 0 {
         return Told::Refused(number);
     }
-    if output.len() != n {
-        return Told::Refused(stepping::DIMENSION);
+    if output.len() == n {
+        vector::copy(output, state);
+        return Told::State;
     }
-    vector::copy(output, state);
-    Told::State
+    Told::Refused(stepping::DIMENSION)
 }
