@@ -1,4 +1,4 @@
-//! What crates/host exports, under C's calling convention.
+//! What crates/host and crates/stepper_host export, under C's calling convention.
 
 /// `number`: the refusal, 0 for none.
 #[repr(C)]
@@ -177,6 +177,29 @@ pub struct StepperAnswer {
 #[derive(Clone, Copy, Debug)]
 pub struct MakingAnswer {
     pub stepper: RosenbrockStepper,
+    pub number: u32,
+}
+
+/// `kind`: 0 refused, with the refusal's `number`; 1 a number, the `value`; 2 the lent state; 3 the
+/// part of the lent work that has `count` doubles from `at` on; 4 there is none; 5 a request at the
+/// lent state, 6 one at a part of the work, with its time as the `value` and what is `asked`: 1 a
+/// derivative, 2 a Jacobian, 3 a time partial.
+#[repr(C)]
+#[derive(Clone, Copy, Debug)]
+pub struct ReadingAnswer {
+    pub kind: u32,
+    pub number: u32,
+    pub asked: u32,
+    pub value: f64,
+    pub at: usize,
+    pub count: usize,
+}
+
+/// `number`: the refusal, 0 for none.
+#[repr(C)]
+#[derive(Clone, Copy, Debug)]
+pub struct StatisticsAnswer {
+    pub statistics: StepStatistics,
     pub number: u32,
 }
 
@@ -411,4 +434,69 @@ unsafe extern "C" {
         pivots: *mut usize,
         pivots_len: usize,
     ) -> StepperAnswer;
+    pub fn wiqhano_stepper_accept_in_place(
+        stepper: *mut RosenbrockStepper,
+        state: *mut f64,
+        state_len: usize,
+        work: *const f64,
+        work_len: usize,
+        pivots: *const usize,
+        pivots_len: usize,
+    ) -> u32;
+    pub fn wiqhano_stepper_reject_in_place(
+        stepper: *mut RosenbrockStepper,
+        state: *const f64,
+        state_len: usize,
+        work: *const f64,
+        work_len: usize,
+        pivots: *const usize,
+        pivots_len: usize,
+    ) -> u32;
+    pub fn wiqhano_stepper_copy_state_into(
+        stepper: RosenbrockStepper,
+        output: *mut f64,
+        output_len: usize,
+        state: *const f64,
+        state_len: usize,
+        work: *const f64,
+        work_len: usize,
+        pivots: *const usize,
+        pivots_len: usize,
+    ) -> u32;
+}
+
+macro_rules! readers {
+    ($($name:ident ($($index:ident: usize)?) -> $answer:ty;)*) => {
+        unsafe extern "C" {
+            $(pub fn $name(
+                stepper: RosenbrockStepper,
+                $($index: usize,)?
+                state: *const f64,
+                state_len: usize,
+                work: *const f64,
+                work_len: usize,
+                pivots: *const usize,
+                pivots_len: usize,
+            ) -> $answer;)*
+        }
+    };
+}
+
+// The same of all that only read.
+readers! {
+    wiqhano_stepper_request() -> ReadingAnswer;
+    wiqhano_stepper_time() -> ReadingAnswer;
+    wiqhano_stepper_state() -> ReadingAnswer;
+    wiqhano_stepper_derivative() -> ReadingAnswer;
+    wiqhano_stepper_statistics() -> StatisticsAnswer;
+    wiqhano_stepper_start() -> ReadingAnswer;
+    wiqhano_stepper_end() -> ReadingAnswer;
+    wiqhano_stepper_candidate() -> ReadingAnswer;
+    wiqhano_stepper_error() -> ReadingAnswer;
+    wiqhano_stepper_stages() -> ReadingAnswer;
+    wiqhano_stepper_rhs_stages() -> ReadingAnswer;
+    wiqhano_stepper_jacobian() -> ReadingAnswer;
+    wiqhano_stepper_time_partial() -> ReadingAnswer;
+    wiqhano_stepper_stage(index: usize) -> ReadingAnswer;
+    wiqhano_stepper_rhs_stage(index: usize) -> ReadingAnswer;
 }

@@ -122,10 +122,10 @@ impl List {
         let rejected = std::mem::take(&mut self.rejected);
         Some(if record.progress.request == 1 {
             match r.below(100) {
-                0..45 => "accept".into(),
+                0..45 => decision(r, "accept"),
                 45..76 => {
                     self.rejected = true;
-                    "reject".into()
+                    decision(r, "reject")
                 }
                 76..80 => self.attempt(r, record, false),
                 80..86 => self.attempt_to(r, record),
@@ -137,7 +137,10 @@ impl List {
             match r.below(100) {
                 0..45 => self.attempt(r, record, rejected),
                 45..70 => self.attempt_to(r, record),
-                70..74 => r.pick(&["accept", "reject"]).into(),
+                70..74 => {
+                    let word = r.pick(&["accept", "reject"]);
+                    decision(r, word)
+                }
                 74..84 => self.inject(r),
                 84..91 => self.reset(r, record),
                 _ => self.other(r),
@@ -285,8 +288,8 @@ impl List {
         match r.below(8) {
             0 => self.attempt(r, record, false),
             1 => self.attempt_to(r, record),
-            2 => "accept".into(),
-            3 => "reject".into(),
+            2 => decision(r, "accept"),
+            3 => decision(r, "reject"),
             4 => self.inject(r),
             5 => {
                 let (time, state) = (record.progress.time, self.state(r));
@@ -300,6 +303,11 @@ impl List {
 
 fn word(r: &mut Random) -> &'static str {
     r.pick(&["make", "makeb"])
+}
+
+/// By value, or in place: the original does not look at the second word.
+fn decision(r: &mut Random, word: &str) -> String {
+    format!("{word}{}", r.pick(&["", " in_place"]))
 }
 
 fn modes(r: &mut Random) -> String {
@@ -481,7 +489,7 @@ pub fn classes() -> Vec<String> {
     }
     of("give", &["err 17"]);
     of("fail", &["err 17"]);
-    for decision in ["accept", "reject"] {
+    for decision in ["accept", "reject", "accept in_place", "reject in_place"] {
         of(decision, &["ok", "ok at step 0", "err 15", "err 18"]);
     }
     of("inject", &["ok", "err 1", "err 2", "err 14", "err 18"]);
@@ -497,7 +505,11 @@ pub fn classes() -> Vec<String> {
 
 /// The kind of a call and of its answer. `before` and `after`: the records around it.
 pub fn class(line: &str, before: Option<&Record>, after: Option<&Record>, answer: &str) -> String {
-    let name = line.split(' ').next().unwrap_or_default();
+    let name = if line.ends_with(" in_place") {
+        line
+    } else {
+        line.split(' ').next().unwrap_or_default()
+    };
     let words: Vec<&str> = answer.split(' ').collect();
     let counted = |record: Option<&Record>| record.map(|r| r.statistics.attempts);
     let asked = before.and_then(Ask::of);
@@ -518,8 +530,8 @@ pub fn class(line: &str, before: Option<&Record>, after: Option<&Record>, answer
             )
         }
         ["ok", ..] => match (name, pending) {
-            ("accept" | "reject", Some(r)) if r.progress.step == 0.0 => "ok at step 0".into(),
             ("reset", Some(_)) => "ok, a candidate dropped".into(),
+            (_, Some(r)) if decides(name) && r.progress.step == 0.0 => "ok at step 0".into(),
             _ => "ok".into(),
         },
         ["err", number, ..] => {
@@ -539,6 +551,10 @@ pub fn class(line: &str, before: Option<&Record>, after: Option<&Record>, answer
         Some(ask) => format!("{name} at {}: {told}", word_of(ask)),
         None => format!("{name}: {told}"),
     }
+}
+
+fn decides(name: &str) -> bool {
+    name.starts_with("accept") || name.starts_with("reject")
 }
 
 fn word_of(ask: Ask) -> &'static str {

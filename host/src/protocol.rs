@@ -8,13 +8,14 @@ use crate::controller::{
     AdaptiveController, ControllerConfig, ControllerError, ControllerState, MinimumStepPolicy,
 };
 use crate::linear::{self, DenseLu};
-use crate::rosenbrock::calls::Record;
+use crate::rosenbrock::calls::{Memory, Record};
 use crate::{
     Failure, StiffSegment, TimeDifferencePolicy, checked_time, endpoint_step, initial_step,
     partial, scaled_error_norm, sqrt,
 };
 use std::io::{self, BufRead, Write};
 use stepper::Steppers;
+pub use stepper::entries;
 use text::{Args, double, numbers, option, vector};
 
 /// What a command answers; `Err` where the line is wrong and nothing was called.
@@ -30,7 +31,12 @@ pub struct Host {
 impl Host {
     /// The stepper's record.
     pub fn record(&self) -> Option<&Record> {
-        self.steppers.record()
+        self.system().map(|(record, _)| record)
+    }
+
+    /// The record with the memory that is lent to it.
+    pub fn system(&self) -> Option<(&Record, &Memory)> {
+        self.steppers.system()
     }
 
     /// The answer to one command, comments and spaces around it taken off.

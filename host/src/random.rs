@@ -30,6 +30,14 @@ pub fn seed() -> u64 {
     }
 }
 
+/// WIQHANO_COUNT, or the default.
+pub fn count(default: usize) -> usize {
+    let text = std::env::var("WIQHANO_COUNT");
+    text.map_or(default, |t| {
+        t.parse().expect("WIQHANO_COUNT is a whole number")
+    })
+}
+
 /// 2^k, for k from -1074 to 1023.
 pub fn power(k: i64) -> f64 {
     f64::from_bits(if k < -1022 {

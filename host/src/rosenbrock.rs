@@ -1,14 +1,15 @@
 //! The stepper in the original's shape: an attempt calls the host's functions for what the library
 //! asks for.
 pub mod calls;
-pub(crate) mod reading;
+pub mod direct;
+pub mod reading;
 
 use crate::{Failure, TimeDifferencePolicy, tableau};
 use calls::{Answer, Memory, Modes, Record, Told};
+use reading::Asked;
 use std::fmt;
 
-pub use calls::StepStatistics;
-pub use reading::Ask;
+pub use calls::{Ask, StepStatistics};
 
 /// A Jacobian, by rows, or a time partial at a fixed state: time, state, and where to write. What
 /// is not written is 0.
@@ -79,6 +80,9 @@ impl RosenbrockStepView<'_> {
     }
 }
 
+/// Between two calls no attempt is open, so that no reader is refused.
+const CLOSED: &str = "no attempt is open";
+
 /// A stepper that owns the memory that it lends.
 #[derive(Clone, Debug)]
 pub struct RosenbrockStepper {
@@ -114,16 +118,16 @@ impl RosenbrockStepper {
 
     /// The accepted time.
     pub fn time(&self) -> f64 {
-        self.record.progress.time
+        reading::time(&self.record, &self.memory).expect(CLOSED)
     }
 
     /// The accepted state.
     pub fn state(&self) -> &[f64] {
-        &self.memory.state
+        reading::state(&self.record, &self.memory).expect(CLOSED)
     }
 
     pub fn statistics(&self) -> StepStatistics {
-        self.record.statistics
+        reading::statistics(&self.record, &self.memory).expect(CLOSED)
     }
 
     /// The tableau file's bytes.
@@ -133,15 +137,11 @@ impl RosenbrockStepper {
 
     /// The derivative at the accepted time and state, if it is cached.
     pub fn current_derivative(&self) -> Option<&[f64]> {
-        reading::derivative(&self.record, &self.memory)
+        reading::derivative(&self.record, &self.memory).expect(CLOSED)
     }
 
     pub fn copy_state_into(&self, output: &mut [f64]) -> Result<(), Failure> {
-        if output.len() != self.memory.state.len() {
-            return Err(Failure::Dimension);
-        }
-        output.copy_from_slice(&self.memory.state);
-        Ok(())
+        reading::copy_state_into(&self.record, &self.memory, output)
     }
 
     /// A Jacobian or a time partial that is not handed over is probed.
@@ -193,31 +193,33 @@ impl RosenbrockStepper {
         let open = Open(self);
         while answer? == Told::Asked {
             let stepper = &mut *open.0;
-            let request = reading::request(&stepper.record, &stepper.memory).expect("a request");
-            let values = &mut stepper.values[..request.wanted];
+            let request = direct::request(&stepper.record, &stepper.memory).expect("a request");
+            let values = &mut stepper.values[..request.wanted()];
             values.fill(0.0);
             let (time, state) = (request.time, request.state);
-            let told = match request.ask {
-                Ask::Jacobian => jacobian.as_mut().expect("a Jacobian")(time, state, values),
-                Ask::TimePartial => time_partial.as_mut().expect("a partial")(time, state, values),
-                _ => rhs(time, state, values),
+            let told = match request.asked {
+                Asked::Derivative => rhs(time, state, values),
+                Asked::Jacobian => jacobian.as_mut().expect("a Jacobian")(time, state, values),
+                Asked::TimePartial => {
+                    time_partial.as_mut().expect("a partial")(time, state, values)
+                }
             };
             told.map_err(StepError::User)?;
             let (record, lent) = (&mut stepper.record, stepper.memory.lend());
             answer = calls::supply(record, &stepper.file, values, lent);
         }
         drop(open);
-        Ok(reading::view(&self.record, &self.memory))
+        Ok(direct::view(&self.record, &self.memory))
     }
 
     /// The candidate becomes the accepted state.
     pub fn accept(&mut self) -> Result<(), Failure> {
-        calls::accept(&mut self.record, self.memory.lend()).map(|_| ())
+        calls::accept_in_place(&mut self.record, self.memory.lend()).map(|_| ())
     }
 
     /// The candidate is dropped; derivative, Jacobian and time partial are kept.
     pub fn reject(&mut self) -> Result<(), Failure> {
-        calls::reject(&mut self.record, self.memory.lend()).map(|_| ())
+        calls::reject_in_place(&mut self.record, self.memory.lend()).map(|_| ())
     }
 
     /// Hands over the derivative at the accepted time and state.

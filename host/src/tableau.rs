@@ -16,6 +16,21 @@ pub struct Coefficients {
 }
 
 impl Coefficients {
+    /// One stage: gamma = d = b = 1, c = 0.
+    pub fn pond() -> Self {
+        Self {
+            hybrid: false,
+            step_doubling: false,
+            gamma: 1.0,
+            a: vec![],
+            coupling: vec![],
+            c: vec![0.0],
+            d: vec![1.0],
+            b: vec![1.0],
+            btilde: None,
+        }
+    }
+
     /// The tableau file, for as many stages as b has elements. What no file can hold makes bytes
     /// that are no tableau file.
     pub fn file(&self) -> Vec<u8> {

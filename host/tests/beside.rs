@@ -9,13 +9,6 @@ use wiqhano::protocol::text::double as hex;
 use wiqhano::random::{self, Random, power};
 use wiqhano::{float, script};
 
-fn count() -> usize {
-    let text = std::env::var("WIQHANO_COUNT");
-    text.map_or(200_000, |t| {
-        t.parse().expect("WIQHANO_COUNT is a whole number")
-    })
-}
-
 /// Differences are printed, the first ten of each call.
 #[derive(Default)]
 struct Tally {
@@ -53,7 +46,7 @@ fn the_original() {
         println!("the original is absent: nothing was compared with it in this run");
         return;
     };
-    let (seed, count) = (random::seed(), count());
+    let (seed, count) = (random::seed(), random::count(200_000));
     println!("seed {seed}");
     let mut random = Random::new(seed);
     let mut total = Tally::default();
@@ -146,7 +139,7 @@ fn roots(random: &mut Random) -> Vec<f64> {
 
 #[test]
 fn the_standard_library() {
-    let (seed, count) = (random::seed(), count());
+    let (seed, count) = (random::seed(), random::count(200_000));
     println!("seed {seed}");
     let mut random = Random::new(seed);
     let mut total = Tally::default();

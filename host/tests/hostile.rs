@@ -1,20 +1,16 @@
 //! The stepper's calls on records, memory and files of every kind, fit or not, beside a second
 //! reading of the scope paper's refusals: each call is refused with the first number that holds and
-//! changes nothing, or goes on and changes only what it may. WIQHANO_SEED sets the seed,
-//! WIQHANO_COUNT the number of calls.
+//! changes nothing, or goes on and changes only what it may; and the readers on the same. WIQHANO_SEED
+//! sets the seed, WIQHANO_COUNT the number of calls.
+mod readers;
+
+use readers::{fits, shape};
 use std::collections::BTreeMap;
 use wiqhano::Failure;
 use wiqhano::random::{self, Random, power, ulp};
 use wiqhano::rosenbrock::calls::{self, Bounds, Fixed, Lent, Memo, Modes, Policy, Progress};
 use wiqhano::rosenbrock::calls::{Memory, Record, StepStatistics, Told};
 use wiqhano::tableau::Coefficients;
-
-fn count() -> usize {
-    let text = std::env::var("WIQHANO_COUNT");
-    text.map_or(100_000, |t| {
-        t.parse().expect("WIQHANO_COUNT is a whole number")
-    })
-}
 
 // ---- what is handed over
 
@@ -27,6 +23,8 @@ enum Kind {
     Fail,
     Accept,
     Reject,
+    AcceptInPlace,
+    RejectInPlace,
     Inject,
     Reset,
 }
@@ -39,6 +37,8 @@ const KINDS: &[Kind] = &[
     Kind::Fail,
     Kind::Accept,
     Kind::Reject,
+    Kind::AcceptInPlace,
+    Kind::RejectInPlace,
     Kind::Inject,
     Kind::Reset,
 ];
@@ -329,15 +329,6 @@ fn all_finite(values: &[f64]) -> bool {
     values.iter().all(|x| x.is_finite())
 }
 
-/// Lengths, n and s in range and fitting each other.
-fn shape(n: usize, s: usize, memory: &Memory) -> bool {
-    (1..=32).contains(&n)
-        && (1..=8).contains(&s)
-        && memory.state.len() == n
-        && memory.pivots.len() == n
-        && memory.work.len() >= 8 * n + 2 * n * n + 2 * s * n
-}
-
 fn checked_time(time: f64, step: f64) -> Option<u32> {
     if !all_finite(&[time, step, time + step]) {
         return Some(2);
@@ -401,14 +392,8 @@ impl Case {
                 .or(when(2, !self.x.is_finite()))
                 .or(when(3, self.file.hybrid));
         }
-        let request = match progress.request {
-            0..=6 => progress.stage == 0,
-            7 => progress.stage < n,
-            8 => progress.stage < s,
-            _ => false,
-        };
         let takes_file = matches!(self.kind, Kind::Attempt | Kind::AttemptTo | Kind::Supply);
-        let first = when(1, !shape(n, s, &self.memory) || !request)
+        let first = when(1, !fits(&self.record, &self.memory))
             .or(when(12, takes_file && self.file.broken))
             .or(when(3, takes_file && self.file.hybrid))
             .or(when(1, takes_file && self.file.stages != s));
@@ -428,7 +413,9 @@ impl Case {
                     .or(when(13, progress.request == 8 && !rows))
             }
             Kind::Fail => when(17, !open),
-            Kind::Accept | Kind::Reject => when(18, open).or(when(15, !pending)),
+            Kind::Accept | Kind::Reject | Kind::AcceptInPlace | Kind::RejectInPlace => {
+                when(18, open).or(when(15, !pending))
+            }
             Kind::Inject => when(18, open)
                 .or(when(14, pending))
                 .or(when(1, values != n))
@@ -461,6 +448,8 @@ impl Case {
             Kind::Fail => calls::fail(record, lent),
             Kind::Accept => calls::accept(record, lent),
             Kind::Reject => calls::reject(record, lent),
+            Kind::AcceptInPlace => calls::accept_in_place(record, lent),
+            Kind::RejectInPlace => calls::reject_in_place(record, lent),
             Kind::Inject => calls::inject_derivative(record, values, lent),
             Kind::Reset => calls::reset(record, x, values, lent),
         }
@@ -574,7 +563,7 @@ fn judged(
             (like.progress.request, like.progress.stage) = (0, 0);
             Err(Failure::HostFailure)
         }
-        Kind::Accept => {
+        Kind::Accept | Kind::AcceptInPlace => {
             let progress = &mut like.progress;
             let same = progress.step == 0.0;
             progress.request = 0;
@@ -589,7 +578,7 @@ fn judged(
             lent.state.copy_from_slice(&case.memory.work[..n]);
             Ok(Told::Done)
         }
-        Kind::Reject => {
+        Kind::Reject | Kind::RejectInPlace => {
             like.progress.request = 0;
             let rejected = statistics.rejected_steps;
             like.statistics.rejected_steps = rejected.saturating_add(1);
@@ -681,13 +670,15 @@ const CLASSES: &[(Kind, &[u32], &[&str])] = &[
     (Kind::Fail, &[1, 17], &["ended 19"]),
     (Kind::Accept, &[1, 15, 18], &["done"]),
     (Kind::Reject, &[1, 15, 18], &["done"]),
+    (Kind::AcceptInPlace, &[1, 15, 18], &["done"]),
+    (Kind::RejectInPlace, &[1, 15, 18], &["done"]),
     (Kind::Inject, &[1, 2, 14, 18], &["done"]),
     (Kind::Reset, &[1, 2, 18], &["done"]),
 ];
 
 #[test]
 fn random_calls() {
-    let (seed, count) = (random::seed(), count());
+    let (seed, count) = (random::seed(), random::count(100_000));
     println!("seed {seed}");
     let mut random = Random::new(seed);
     let mut wrong = 0;
@@ -727,8 +718,82 @@ fn random_calls() {
     }
 }
 
-/// Each length off by one, each number of the record out of range: 1 from every call, and nothing
-/// changed.
+/// What each reader may tell: a refusal's number, or something.
+const READERS: &[(&str, &[u32])] = &[
+    ("request", &[0, 1, 17]),
+    ("time", &[0, 1, 18]),
+    ("state", &[0, 1, 18]),
+    ("derivative", &[0, 1, 18]),
+    ("statistics", &[0, 1, 18]),
+    ("copy", &[0, 1, 18]),
+    ("start", &[0, 1, 15, 18]),
+    ("end", &[0, 1, 15, 18]),
+    ("candidate", &[0, 1, 15, 18]),
+    ("error", &[0, 1, 15, 18]),
+    ("stages", &[0, 1, 15, 18]),
+    ("rhs_stages", &[0, 1, 15, 18]),
+    ("jacobian", &[0, 1, 15, 18]),
+    ("time_partial", &[0, 1, 15, 18]),
+    ("stage", &[0, 1, 15, 18]),
+    ("rhs_stage", &[0, 1, 15, 18]),
+];
+
+/// A reader tells a number of the scope paper, or what stands at a place inside the memory that is
+/// lent, and changes nothing.
+#[test]
+fn random_readings() {
+    let (seed, count) = (random::seed(), random::count(100_000));
+    println!("seed {seed}");
+    let random = &mut Random::new(seed);
+    let mut classes: BTreeMap<(String, u32), usize> = BTreeMap::new();
+    let (mut read, mut wrong) = (0, 0);
+    for _ in 0..count {
+        let mut case = case(random);
+        if random.chance(5) {
+            case.record.progress.step = random.pick(&[0.0, -0.0]);
+        }
+        let (record, memory) = (&case.record, case.memory.clone());
+        let (n, s) = (record.fixed.n.min(40), record.fixed.s);
+        let indices = [
+            random.below(8) as usize,
+            s.wrapping_sub(1),
+            s,
+            random.bits() as usize,
+            usize::MAX,
+        ];
+        let lengths = [n, n + 1, n.saturating_sub(1), random.below(40) as usize];
+        let told = readers::told(record, &memory, &indices, &lengths);
+        read += told.len();
+        for (name, told) in &told {
+            let name = name.split(' ').next().unwrap_or_default();
+            let number = told.as_ref().err().copied().unwrap_or(0);
+            *classes.entry((name.into(), number)).or_default() += 1;
+        }
+        let expected = readers::expected(record, &memory, &indices, &lengths);
+        if told != expected || !same_memory(&memory, &case.memory) {
+            wrong += 1;
+            if wrong <= 10 {
+                println!("seed {seed}\n  {case:?}\n  {told:?}\n  {expected:?}");
+            }
+        }
+    }
+    println!("compared hostile readings {read} differing {wrong}");
+    assert_eq!(wrong, 0);
+    for (name, numbers) in READERS {
+        for number in *numbers {
+            let met = classes.remove(&(name.to_string(), *number)).unwrap_or(0);
+            let often = count / 20_000;
+            assert!(met >= often, "{name} {number}: only {met}, seed {seed}");
+        }
+    }
+    assert!(
+        classes.is_empty(),
+        "other answers, seed {seed}: {classes:?}"
+    );
+}
+
+/// Each length off by one, each number of the record out of range: 1 from every call and every reader,
+/// and nothing changed.
 #[test]
 fn what_does_not_fit_is_refused_by_every_call() {
     let mut random = Random::new(1);
@@ -763,6 +828,10 @@ fn what_does_not_fit_is_refused_by_every_call() {
             let answer = case.call(&mut record, &mut memory);
             assert_eq!(answer, Err(Failure::Dimension), "{kind:?} {change}");
             assert_eq!(judged(&case, answer, &record, &memory), Ok(()));
+            for (name, told) in readers::told(&record, &memory, &[0], &[record.fixed.n.min(40)]) {
+                assert_eq!(told, Err(1), "{name} {change}");
+            }
+            assert!(same_memory(&memory, &case.memory), "{change}");
         }
     }
 }
@@ -770,18 +839,7 @@ fn what_does_not_fit_is_refused_by_every_call() {
 /// The counters stay at the largest value.
 #[test]
 fn counters_stay_at_the_largest_value() {
-    let file = Coefficients {
-        hybrid: false,
-        step_doubling: false,
-        gamma: 1.0,
-        a: vec![],
-        coupling: vec![],
-        c: vec![0.0],
-        d: vec![1.0],
-        b: vec![1.0],
-        btilde: None,
-    }
-    .file();
+    let file = Coefficients::pond().file();
     let mut memory = Memory::new(&[1.0], 1);
     let policy = wiqhano::TimeDifferencePolicy::default();
     let mut record = calls::new(&file, policy.into(), 0.0, memory.lend()).unwrap();

@@ -7,6 +7,7 @@ mod ffi;
 use ffi::{AdaptiveController, AssessAnswer, ControllerConfig, ControllerState, Settings, Settled};
 use ffi::{Answer, Bounds, ProbeTimes, SameAnswer, TimeDifferencePolicy as Policy};
 use ffi::{Fixed, MakingAnswer, Memo, Progress, RosenbrockStepper, StepStatistics, StepperAnswer};
+use ffi::{ReadingAnswer, StatisticsAnswer};
 use std::mem::{align_of, offset_of, size_of};
 use wiqhano as _; // links the archive
 
@@ -136,6 +137,19 @@ fn sizes_and_offsets_of_the_stepper() {
     assert_eq!(size_of::<MakingAnswer>(), 200);
     assert_eq!(offset_of!(MakingAnswer, stepper), 0);
     assert_eq!(offset_of!(MakingAnswer, number), 192);
+
+    type Reading = ReadingAnswer;
+    assert_eq!((size_of::<Reading>(), align_of::<Reading>()), (40, 8));
+    assert_eq!(offset_of!(Reading, kind), 0);
+    assert_eq!(offset_of!(Reading, number), 4);
+    assert_eq!(offset_of!(Reading, asked), 8);
+    assert_eq!(offset_of!(Reading, value), 16);
+    assert_eq!(offset_of!(Reading, at), 24);
+    assert_eq!(offset_of!(Reading, count), 32);
+
+    assert_eq!(size_of::<StatisticsAnswer>(), 64);
+    assert_eq!(offset_of!(StatisticsAnswer, statistics), 0);
+    assert_eq!(offset_of!(StatisticsAnswer, number), 56);
 }
 
 #[test]
@@ -372,4 +386,116 @@ fn a_making_puts_each_field_in_its_place() {
     // 8 * 3 + 2 * 9 + 2 * 2 * 3 doubles are needed
     assert_eq!(work[..54], [0.0; 54]);
     assert_eq!((work[54], pivots), (7.0, [0; 3]));
+}
+
+/// A reader on a record with 3 components and 2 stages and the 54 doubles that it needs, or one fewer.
+macro_rules! reading {
+    ($export:ident, $record:expr, $work:expr $(, $index:expr)?) => {{
+        let (state, work, pivots) = ([5.0; 3], [7.0; 54], [0_usize; 3]);
+        let (state, work, pivots) = (state.as_ptr(), work.as_ptr(), pivots.as_ptr());
+        unsafe { ffi::$export($record, $($index,)? state, 3, work, $work, pivots, 3) }
+    }};
+}
+
+/// kind, number, asked, value, at and count. What is not told is 0.
+fn fields(a: ReadingAnswer) -> (u32, u32, u32, f64, usize, usize) {
+    (a.kind, a.number, a.asked, a.value, a.at, a.count)
+}
+
+#[test]
+fn each_field_of_a_reading_comes_back_from_its_place() {
+    let pending = record(3, 2, 1);
+    let told = fields(reading!(wiqhano_stepper_start, pending, 54));
+    assert_eq!(told, (1, 0, 0, 1.5, 0, 0));
+    let told = fields(reading!(wiqhano_stepper_end, pending, 54));
+    assert_eq!(told, (1, 0, 0, 1.75, 0, 0));
+    let told = fields(reading!(wiqhano_stepper_time, pending, 54));
+    assert_eq!(told, (1, 0, 0, 1.5, 0, 0));
+    let told = fields(reading!(wiqhano_stepper_state, pending, 54));
+    assert_eq!(told, (2, 0, 0, 0.0, 0, 0));
+    let told = fields(reading!(wiqhano_stepper_candidate, pending, 54));
+    assert_eq!(told, (3, 0, 0, 0.0, 0, 3));
+    let told = fields(reading!(wiqhano_stepper_error, pending, 54));
+    assert_eq!(told, (3, 0, 0, 0.0, 3, 3));
+    let told = fields(reading!(wiqhano_stepper_derivative, pending, 54));
+    assert_eq!(told, (3, 0, 0, 0.0, 9, 3));
+    let told = fields(reading!(wiqhano_stepper_time_partial, pending, 54));
+    assert_eq!(told, (3, 0, 0, 0.0, 12, 3));
+    let told = fields(reading!(wiqhano_stepper_jacobian, pending, 54));
+    assert_eq!(told, (3, 0, 0, 0.0, 24, 9));
+    let told = fields(reading!(wiqhano_stepper_stages, pending, 54));
+    assert_eq!(told, (3, 0, 0, 0.0, 42, 6));
+    let told = fields(reading!(wiqhano_stepper_rhs_stages, pending, 54));
+    assert_eq!(told, (3, 0, 0, 0.0, 48, 6));
+    let told = fields(reading!(wiqhano_stepper_stage, pending, 54, 1));
+    assert_eq!(told, (3, 0, 0, 0.0, 45, 3));
+    let told = fields(reading!(wiqhano_stepper_rhs_stage, pending, 54, 1));
+    assert_eq!(told, (3, 0, 0, 0.0, 51, 3));
+    let told = fields(reading!(wiqhano_stepper_stage, pending, 54, 2));
+    assert_eq!(told, (0, 1, 0, 0.0, 0, 0));
+    let told = fields(reading!(wiqhano_stepper_request, pending, 54));
+    assert_eq!(told, (0, 17, 0, 0.0, 0, 0));
+    let told = fields(reading!(wiqhano_stepper_time, pending, 53));
+    assert_eq!(told, (0, 1, 0, 0.0, 0, 0));
+    let mut absent = pending;
+    absent.progress.memo.error_shown = false;
+    let told = fields(reading!(wiqhano_stepper_error, absent, 54));
+    assert_eq!(told, (4, 0, 0, 0.0, 0, 0));
+    // a derivative, a Jacobian, a time partial, two probes, a column, a stage
+    let asked = [
+        (2, (5, 0, 1, 1.0625, 0, 0)),
+        (3, (5, 0, 2, 1.0625, 0, 0)),
+        (4, (5, 0, 3, 1.0625, 0, 0)),
+        (5, (5, 0, 1, 1.0625, 0, 0)),
+        (6, (5, 0, 1, 1.0625, 0, 0)),
+        (7, (6, 0, 1, 1.0625, 15, 3)),
+        (8, (6, 0, 1, 1.0625, 6, 3)),
+    ];
+    for (request, expected) in asked {
+        let open = record(3, 2, request);
+        let told = fields(reading!(wiqhano_stepper_request, open, 54));
+        assert_eq!(told, expected, "{request}");
+        let told = fields(reading!(wiqhano_stepper_start, open, 54));
+        assert_eq!(told, (0, 18, 0, 0.0, 0, 0), "{request}");
+    }
+    let told = fields(reading!(wiqhano_stepper_start, record(3, 2, 0), 54));
+    assert_eq!(told, (0, 15, 0, 0.0, 0, 0));
+    let told = reading!(wiqhano_stepper_statistics, pending, 54);
+    assert_eq!((told.number, told.statistics), (0, pending.statistics));
+    let told = reading!(wiqhano_stepper_statistics, record(3, 2, 8), 54);
+    let none = StepStatistics::default();
+    assert_eq!((told.number, told.statistics), (18, none));
+}
+
+#[test]
+fn a_record_is_changed_where_it_stands() {
+    for (accept, request) in [(true, 1), (false, 1), (true, 0), (false, 0), (true, 5)] {
+        let mut lent = record(1, 1, request);
+        let (by_value, left) = decided(lent, accept);
+        let (mut state, work, pivots) = ([5.0], [7.0; 12], [0]);
+        let number = unsafe {
+            match accept {
+                true => ffi::wiqhano_stepper_accept_in_place(
+                    &mut lent,
+                    state.as_mut_ptr(),
+                    1,
+                    work.as_ptr(),
+                    12,
+                    pivots.as_ptr(),
+                    1,
+                ),
+                false => ffi::wiqhano_stepper_reject_in_place(
+                    &mut lent,
+                    state.as_ptr(),
+                    1,
+                    work.as_ptr(),
+                    12,
+                    pivots.as_ptr(),
+                    1,
+                ),
+            }
+        };
+        assert_eq!((number, state[0]), (by_value.number, left));
+        assert_eq!(text(lent), text(by_value.stepper));
+    }
 }

@@ -1,19 +1,17 @@
 //! Whole lists of the stepper's calls beside the original (WIQHANO_ORACLE names the oracle's
-//! program). WIQHANO_SEED sets the seed, WIQHANO_COUNT the answers compared.
+//! program), accept and reject by value or in place. After each call every reader is read: the
+//! answers that are compared are made of what they tell, and they are held to a second reading of
+//! the record. WIQHANO_SEED sets the seed, WIQHANO_COUNT the answers compared.
 mod oracle;
+mod readers;
 
 use oracle::original;
 use std::collections::BTreeMap;
 use wiqhano::lists::{self, List};
-use wiqhano::protocol::Host;
+use wiqhano::protocol::{Host, entries};
 use wiqhano::random::{self, Random};
-
-fn count() -> usize {
-    let text = std::env::var("WIQHANO_COUNT");
-    text.map_or(200_000, |t| {
-        t.parse().expect("WIQHANO_COUNT is a whole number")
-    })
-}
+use wiqhano::rosenbrock::calls::{Memory, Record};
+use wiqhano::rosenbrock::{direct, reading};
 
 /// A line of a list, the port's answer, and their class.
 struct Call {
@@ -21,6 +19,20 @@ struct Call {
     line: String,
     port: String,
     class: String,
+}
+
+/// Every reader tells what the second reading has, and the wrapper's own view is theirs.
+fn read_twice(record: &Record, memory: &Memory, after: &str) {
+    let (n, s) = (record.fixed.n, record.fixed.s);
+    let (indices, lengths) = ([0, s - 1, s, usize::MAX], [n, n - 1, n + 1]);
+    let differing = readers::differing(record, memory, &indices, &lengths);
+    assert!(differing.is_empty(), "after {after}: {differing:?}");
+    if let Ok(view) = reading::view(record, memory) {
+        let own = direct::view(record, memory);
+        assert_eq!(entries(&own), entries(&view), "after {after}");
+        assert_eq!(own.statistics, view.statistics, "after {after}");
+        assert_eq!(own.stage(s - 1), view.stage(s - 1), "after {after}");
+    }
 }
 
 /// Lists until there are so many lines. A last `fail` closes an attempt that is open only in the
@@ -32,6 +44,9 @@ fn written(random: &mut Random, lines: usize) -> Vec<Call> {
         let before = host.record().copied();
         let port = host.answer(&line);
         let class = lists::class(&line, before.as_ref(), host.record(), &port);
+        if let Some((record, memory)) = host.system() {
+            read_twice(record, memory, &line);
+        }
         calls.push(Call {
             list,
             line,
@@ -67,7 +82,7 @@ fn the_original() {
         println!("the original is absent: nothing was compared with it in this run");
         return;
     };
-    let (seed, count) = (random::seed(), count());
+    let (seed, count) = (random::seed(), random::count(200_000));
     println!("seed {seed}");
     let mut random = Random::new(seed);
     let (mut compared, mut differing, mut left_out) = (0, 0, 0);
@@ -112,7 +127,7 @@ fn the_original() {
     let mut rare = Vec::new();
     for class in lists::classes() {
         let met = classes.remove(&class).unwrap_or(0);
-        if met < count / 20_000 {
+        if met < count / 40_000 {
             rare.push(format!("{class}: {met}"));
         }
     }

@@ -1,7 +1,7 @@
 //! The stepper in the original's shape, and the protocol's lines that the original cannot answer.
 use std::panic::{AssertUnwindSafe, catch_unwind};
-use wiqhano::protocol::Host;
 use wiqhano::protocol::text::{double, to_double, to_vector, vector};
+use wiqhano::protocol::{Host, entries};
 use wiqhano::random::{self, Random, power};
 use wiqhano::tableau::Coefficients;
 use wiqhano::{DerivativeHook, Failure, RosenbrockStepView, RosenbrockStepper, StepError};
@@ -9,28 +9,13 @@ use wiqhano::{StepStatistics, TimeDifferencePolicy};
 
 type Hook<'a> = &'a mut DerivativeHook<'a, String>;
 
-/// One stage: gamma = d = b = 1, c = 0.
-fn pond() -> Coefficients {
-    Coefficients {
-        hybrid: false,
-        step_doubling: false,
-        gamma: 1.0,
-        a: vec![],
-        coupling: vec![],
-        c: vec![0.0],
-        d: vec![1.0],
-        b: vec![1.0],
-        btilde: None,
-    }
-}
-
 fn decay(_: f64, y: &[f64], out: &mut [f64]) -> Result<(), String> {
     out.iter_mut().zip(y).for_each(|(out, y)| *out = -y);
     Ok(())
 }
 
 fn stepper(state: &[f64]) -> RosenbrockStepper {
-    RosenbrockStepper::new(&pond().file(), 0.0, state).unwrap()
+    RosenbrockStepper::new(&Coefficients::pond().file(), 0.0, state).unwrap()
 }
 
 #[test]
@@ -72,14 +57,14 @@ fn two_steps_of_the_pond() {
         linear_solves: 2,
     };
     assert_eq!(stepper.statistics(), statistics);
-    assert_eq!(stepper.tableau(), pond().file());
+    assert_eq!(stepper.tableau(), Coefficients::pond().file());
 }
 
 #[test]
 fn a_zero_step_shows_no_stages() {
     let file = Coefficients {
         btilde: Some(vec![1.0]),
-        ..pond()
+        ..Coefficients::pond()
     }
     .file();
     let mut stepper = RosenbrockStepper::new(&file, 1.0, &[3.0, 4.0]).unwrap();
@@ -149,7 +134,7 @@ fn a_panic_closes_the_attempt() {
 #[test]
 fn what_a_making_refuses() {
     let made = |file: &[u8], state: &[f64]| RosenbrockStepper::new(file, 0.0, state).err();
-    let file = pond().file();
+    let file = Coefficients::pond().file();
     assert_eq!(file.len(), 80);
     assert_eq!(made(&file, &[1.0; 32]), None);
     assert_eq!(made(&file, &[1.0; 33]), Some(Failure::Dimension));
@@ -160,7 +145,7 @@ fn what_a_making_refuses() {
     assert_eq!(made(&[], &[]), Some(Failure::TableauFile));
     let hybrid = Coefficients {
         hybrid: true,
-        ..pond()
+        ..Coefficients::pond()
     };
     assert_eq!(
         made(&hybrid.file(), &[1.0]),
@@ -245,18 +230,7 @@ impl System {
 
 fn text(view: Result<RosenbrockStepView<'_>, StepError<String>>) -> String {
     match view {
-        Ok(v) => format!(
-            "ok prev={} start={} end={} cand={} err={} solved={} rhs={} jac={} tp={} ",
-            vector(v.previous_state),
-            double(v.start_time),
-            double(v.end_time),
-            vector(v.candidate),
-            v.component_error.map_or("-".into(), vector),
-            vector(v.solved_stages),
-            vector(v.stage_derivatives),
-            vector(v.jacobian),
-            vector(v.time_partial)
-        ),
+        Ok(view) => format!("ok {} ", entries(&view)),
         Err(StepError::Solver(failure)) => format!("err {} ", failure.number()),
         Err(StepError::User(error)) => error,
     }
@@ -321,6 +295,7 @@ fn as_the_protocol_answers() {
                 answer = host.answer(&system.given(&answer));
             }
             assert!(answer.starts_with(&view), "{line}\n{view}\n{answer}");
+            // the wrapper decides in place
             let (line, _) = match r.below(3) {
                 0 => ("accept", stepper.accept()),
                 _ => ("reject", stepper.reject()),

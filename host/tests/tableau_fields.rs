@@ -5,13 +5,6 @@ use std::collections::BTreeMap;
 use wiqhano::random::{self, Random};
 use wiqhano::{Failure, tableau};
 
-fn count() -> usize {
-    let text = std::env::var("WIQHANO_COUNT");
-    text.map_or(200_000, |t| {
-        t.parse().expect("WIQHANO_COUNT is a whole number")
-    })
-}
-
 #[derive(Clone, PartialEq)]
 struct Tableau {
     stages: usize,
@@ -90,7 +83,7 @@ fn agrees(port: f64, file: Option<&f64>) -> bool {
 
 #[test]
 fn fields() {
-    let (seed, count) = (random::seed(), count());
+    let (seed, count) = (random::seed(), random::count(200_000));
     println!("seed {seed}");
     let mut random = Random::new(seed);
     let (mut compared, mut differing) = (0, 0);
@@ -140,7 +133,7 @@ fn fields() {
 
 #[test]
 fn sameness() {
-    let (seed, count) = (random::seed(), count());
+    let (seed, count) = (random::seed(), random::count(200_000));
     println!("seed {seed}");
     let mut random = Random::new(seed);
     let mut met: BTreeMap<String, usize> = BTreeMap::new();

@@ -13,13 +13,6 @@ const BTILDE: usize = 3;
 const OFFSETS: usize = 4;
 const LENGTH: usize = 11;
 
-fn count() -> usize {
-    let text = std::env::var("WIQHANO_COUNT");
-    text.map_or(200_000, |t| {
-        t.parse().expect("WIQHANO_COUNT is a whole number")
-    })
-}
-
 fn number(file: &[u8], i: usize) -> u32 {
     u32::from_le_bytes(file[4 * i..4 * i + 4].try_into().unwrap())
 }
@@ -322,7 +315,7 @@ impl Tally {
 
 #[test]
 fn random_files() {
-    let (seed, count) = (random::seed(), count());
+    let (seed, count) = (random::seed(), random::count(200_000));
     println!("seed {seed}");
     let mut random = Random::new(seed);
     let mut tallies: BTreeMap<&str, Tally> = BTreeMap::new();

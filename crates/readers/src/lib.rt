@@ -217,12 +217,12 @@ pub fn start(stepper: RosenbrockStepper, state: &[f64], work: &[f64], pivots: &[
 {
     let fixed = stepper.fixed;
     let progress = stepper.progress;
-    let time = progress.time;
+    let start = progress.time;
     let number = refusals::decision_refusal(fixed, progress, state.len(), work.len(), pivots.len());
     if number != 0 {
         return Told::Refused(number);
     }
-    Told::Number(time)
+    Told::Number(start)
 }
 
 pub fn end(stepper: RosenbrockStepper, state: &[f64], work: &[f64], pivots: &[usize]) -> Told
@@ -411,9 +411,9 @@ pub fn copy_state_into(
     if number != 0 {
         return Told::Refused(number);
     }
-    if output.len() != n {
-        return Told::Refused(stepping::DIMENSION);
+    if output.len() == n {
+        vector::copy(output, state);
+        return Told::State;
     }
-    vector::copy(output, state);
-    Told::State
+    Told::Refused(stepping::DIMENSION)
 }

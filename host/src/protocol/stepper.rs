@@ -3,9 +3,10 @@
 use super::Answer;
 use super::text::{Args, double, numbers, option, to_numbers, vector};
 use crate::Failure;
-use crate::rosenbrock::calls::{self, Memory, Modes, Record, Told};
-use crate::rosenbrock::reading::{self, Part};
-use crate::rosenbrock::{Ask, RosenbrockStepView, StepStatistics};
+use crate::rosenbrock::calls::{self, Lent, Memory, Modes, Record, Told};
+use crate::rosenbrock::direct::{self, Part};
+use crate::rosenbrock::reading::{self, Asked};
+use crate::rosenbrock::{RosenbrockStepView, StepStatistics};
 use crate::tableau::{self, Coefficients};
 
 /// The last tableau file, and the stepper.
@@ -15,6 +16,9 @@ pub struct Steppers {
     stepper: Option<Stepper>,
 }
 
+/// accept or reject, in one of its two forms.
+type Decide = fn(&mut Record, Lent<'_>) -> calls::Answer;
+
 /// A stepper with the file that it was made with.
 struct Stepper {
     file: Vec<u8>,
@@ -23,8 +27,8 @@ struct Stepper {
 }
 
 impl Steppers {
-    pub fn record(&self) -> Option<&Record> {
-        self.stepper.as_ref().map(|s| &s.record)
+    pub fn system(&self) -> Option<(&Record, &Memory)> {
+        self.stepper.as_ref().map(|s| (&s.record, &s.memory))
     }
 
     /// None for a command that is not the stepper's.
@@ -37,8 +41,8 @@ impl Steppers {
             "attempt_to" => self.attempt_to(args),
             "give" => self.give(args),
             "fail" => self.unit(|s| calls::fail(&mut s.record, s.memory.lend())),
-            "accept" => self.unit(|s| calls::accept(&mut s.record, s.memory.lend())),
-            "reject" => self.unit(|s| calls::reject(&mut s.record, s.memory.lend())),
+            "accept" => self.decide(args, calls::accept, calls::accept_in_place),
+            "reject" => self.decide(args, calls::reject, calls::reject_in_place),
             "inject" => self.inject(args),
             "reset" => self.reset(args),
             "show" => self.reader(|_| "ok".into()),
@@ -69,7 +73,7 @@ impl Steppers {
             record,
             memory,
         });
-        Ok(format!("ok {}", stepper.now()))
+        Ok(stepper.told(Ok(Told::Done)))
     }
 
     fn stepper(&mut self) -> Result<&mut Stepper, String> {
@@ -82,11 +86,20 @@ impl Steppers {
         Ok(stepper.told(answer))
     }
 
+    /// With the word `in_place` on the record where it stands, else by value.
+    fn decide(&mut self, args: &Args<'_>, by_value: Decide, in_place: Decide) -> Answer {
+        let decide = match args.token(1) {
+            Ok("in_place") => in_place,
+            _ => by_value,
+        };
+        self.unit(|s| decide(&mut s.record, s.memory.lend()))
+    }
+
     fn reader(&mut self, read: impl FnOnce(&Stepper) -> String) -> Answer {
         let stepper = self.stepper()?;
-        Ok(match Ask::of(&stepper.record) {
-            Some(_) => refusal(Failure::AttemptOpen),
-            None => format!("{} {}", read(stepper), stepper.now()),
+        Ok(match stepper.now() {
+            Ok(now) => format!("{} {now}", read(stepper)),
+            Err(failure) => refusal(failure),
         })
     }
 
@@ -110,8 +123,8 @@ impl Steppers {
         let answer = calls::supply(&mut s.record, &s.file, &values, s.memory.lend());
         // in the original's words
         match (answer, reading::request(&s.record, &s.memory)) {
-            (Err(Failure::Dimension), Some(request)) if request.wanted != values.len() => {
-                Err(format!("length, wants {}", request.wanted))
+            (Err(Failure::Dimension), Ok(request)) if request.wanted() != values.len() => {
+                Err(format!("length, wants {}", request.wanted()))
             }
             _ => Ok(s.told(answer)),
         }
@@ -143,7 +156,7 @@ impl Steppers {
             return Err("seven counters".into());
         };
         let stepper = self.stepper()?;
-        if Ask::of(&stepper.record).is_none() {
+        if stepper.now().is_ok() {
             stepper.record.statistics = StepStatistics {
                 attempts,
                 rhs_evaluations: rhs,
@@ -164,39 +177,49 @@ impl Stepper {
     fn told(&self, answer: calls::Answer) -> String {
         let text = match answer {
             Ok(Told::Asked) => return self.need(),
-            Ok(Told::Shown) => view(&reading::view(&self.record, &self.memory)),
+            Ok(Told::Shown) => {
+                let shown = reading::view(&self.record, &self.memory).expect("a pending step");
+                format!(
+                    "ok {} view_{}",
+                    entries(&shown),
+                    statistics(shown.statistics)
+                )
+            }
             Ok(Told::Done) => "ok".into(),
             Err(failure) => refusal(failure),
         };
-        match Ask::of(&self.record) {
-            Some(_) => text,
-            None => format!("{text} {}", self.now()),
+        match self.now() {
+            Ok(now) => format!("{text} {now}"),
+            Err(_) => text,
         }
     }
 
     fn need(&self) -> String {
         let request = reading::request(&self.record, &self.memory).expect("a request");
-        let kind = match request.ask {
-            Ask::Jacobian => "jac",
-            Ask::TimePartial => "tp",
-            _ => "rhs",
+        let kind = match request.asked {
+            Asked::Derivative => "rhs",
+            Asked::Jacobian => "jac",
+            Asked::TimePartial => "tp",
         };
         let (time, state) = (double(request.time), vector(request.state));
         format!("need {kind} time={time} state={state}")
     }
 
-    fn now(&self) -> String {
-        format!(
+    /// What is accepted; refused while an attempt is open.
+    fn now(&self) -> Result<String, Failure> {
+        let (record, memory) = (&self.record, &self.memory);
+        Ok(format!(
             "{} time={} state={}",
-            statistics(self.record.statistics),
-            double(self.record.progress.time),
-            vector(&self.memory.state)
-        )
+            statistics(reading::statistics(record, memory)?),
+            double(reading::time(record, memory)?),
+            vector(reading::state(record, memory)?)
+        ))
     }
 
     fn dump(&self) -> String {
         let memo = &self.record.progress.memo;
-        let pending = reading::pending(&self.record);
+        let progress = &self.record.progress;
+        let pending = (progress.request == 1).then_some(progress.step);
         let mut text = format!(
             "ok derivative={} differentiation={} pending={}",
             u8::from(memo.derivative_valid),
@@ -217,7 +240,7 @@ impl Stepper {
             ("probe_rhs", Part::ProbeRhs),
             ("linear_rhs", Part::LinearRhs),
         ] {
-            let values = vector(reading::part(&self.record, &self.memory, which));
+            let values = vector(direct::part(&self.record, &self.memory, which));
             text += &format!(" {name}={values}");
         }
         format!("{text} pivots={}", numbers(&self.memory.pivots))
@@ -254,9 +277,10 @@ fn statistics(s: StepStatistics) -> String {
     )
 }
 
-fn view(v: &RosenbrockStepView<'_>) -> String {
+/// The step's entries, counters apart.
+pub fn entries(v: &RosenbrockStepView<'_>) -> String {
     format!(
-        "ok prev={} start={} end={} cand={} err={} solved={} rhs={} jac={} tp={} view_{}",
+        "prev={} start={} end={} cand={} err={} solved={} rhs={} jac={} tp={}",
         vector(v.previous_state),
         double(v.start_time),
         double(v.end_time),
@@ -265,8 +289,7 @@ fn view(v: &RosenbrockStepView<'_>) -> String {
         vector(v.solved_stages),
         vector(v.stage_derivatives),
         vector(v.jacobian),
-        vector(v.time_partial),
-        statistics(v.statistics)
+        vector(v.time_partial)
     )
 }
 

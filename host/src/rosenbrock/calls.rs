@@ -19,6 +19,36 @@ pub enum Told {
 
 pub type Answer = Result<Told, Failure>;
 
+/// What an open attempt waits for, as its record says it: derivatives, but for the Jacobian and the
+/// time partial.
+#[derive(Clone, Copy, Debug, PartialEq, Eq)]
+pub enum Ask {
+    Derivative,
+    Jacobian,
+    TimePartial,
+    FirstProbe,
+    SecondProbe,
+    Column(usize),
+    Stage(usize),
+}
+
+impl Ask {
+    /// None where no attempt is open.
+    pub fn of(record: &Record) -> Option<Self> {
+        let stage = record.progress.stage;
+        Some(match record.progress.request {
+            2 => Self::Derivative,
+            3 => Self::Jacobian,
+            4 => Self::TimePartial,
+            5 => Self::FirstProbe,
+            6 => Self::SecondProbe,
+            7 => Self::Column(stage),
+            8 => Self::Stage(stage),
+            _ => return None,
+        })
+    }
+}
+
 /// Whether the host supplies it; otherwise it is probed.
 #[derive(Clone, Copy, Debug)]
 pub struct Modes {
@@ -224,6 +254,40 @@ pub fn reject(record: &mut Record, lent: Lent<'_>) -> Answer {
         )
     };
     told(record, answer)
+}
+
+/// accept, on the record where it stands.
+pub fn accept_in_place(record: &mut Record, lent: Lent<'_>) -> Answer {
+    // SAFETY: the record is lent for the call; the slices' own pointers and lengths
+    let number = unsafe {
+        ffi::wiqhano_stepper_accept_in_place(
+            record,
+            lent.state.as_mut_ptr(),
+            lent.state.len(),
+            lent.work.as_ptr(),
+            lent.work.len(),
+            lent.pivots.as_ptr(),
+            lent.pivots.len(),
+        )
+    };
+    Failure::unless_0(number).map(|()| Told::Done)
+}
+
+/// reject, on the record where it stands.
+pub fn reject_in_place(record: &mut Record, lent: Lent<'_>) -> Answer {
+    // SAFETY: as for accept_in_place
+    let number = unsafe {
+        ffi::wiqhano_stepper_reject_in_place(
+            record,
+            lent.state.as_ptr(),
+            lent.state.len(),
+            lent.work.as_ptr(),
+            lent.work.len(),
+            lent.pivots.as_ptr(),
+            lent.pivots.len(),
+        )
+    };
+    Failure::unless_0(number).map(|()| Told::Done)
 }
 
 #[inline]

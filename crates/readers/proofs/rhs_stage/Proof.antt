@@ -33,7 +33,7 @@ stages-at-requires c κs = let a = c .before .before .before .before .before .be
 
 times-requires : tie.Need-times-requires
 unfolding queryTests
-times-requires c κs = let a = c .before .before .before .before .before .before .before .before .before .before .args in let f = read-shape (a .stepper) (now (a .state)) (now (a .work)) (now (a .pivots)) (the-rhs-stage (a .index)) (then-the-index (a .stepper) (now (a .state)) (now (a .work)) (now (a .pivots)) (a .index) (c .before .before .before .before .decision-refusal .ensures) (c .before .before .before .if1 .left) (c .before .before .stage-refusal .ensures)) (c .before .if2 .left) in (f .n-to-32, f .s-to-8)
+times-requires c κs = let a = c .before .before .before .before .before .before .before .before .before .before .args in let f = read-shape (a .stepper) (now (a .state)) (now (a .work)) (now (a .pivots)) (the-rhs-stage (a .index)) (then-the-index (a .stepper) (now (a .state)) (now (a .work)) (now (a .pivots)) (a .index) (c .before .before .before .before .decision-refusal .ensures) (c .before .before .before .if1 .left) (c .before .before .stage-refusal .ensures)) (c .before .if2 .left) in let h = f .s-to-8 in (f .n-to-32, omega arith)
 
 add-t14 : tie.Need-add-t14
 add-t14 c = search needs

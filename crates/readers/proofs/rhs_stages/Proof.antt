@@ -1,5 +1,6 @@
 -- `readers::rhs_stages` meets its contract. Assumes nothing.
 use borrow.Author.Needs.{needs}
+use native.Mathlib.Omega.{arith}
 use mathlib.Core.Path.{refl}
 use denote.Ref.{now}
 use Prim.Native.Nat.{_+_, _*_}
@@ -24,14 +25,14 @@ stages-at-requires c κs = let a = c .before .before .before .before .before .be
 
 times-requires : tie.Need-times-requires
 unfolding queryTests
-times-requires c κs = let a = c .before .before .before .before .before .before .before .before .args in let f = read-shape (a .stepper) (now (a .state)) (now (a .work)) (now (a .pivots)) the-rhs-stages (c .before .before .decision-refusal .ensures) (c .before .if1 .left) in (f .n-to-32, f .s-to-8)
+times-requires c κs = let a = c .before .before .before .before .before .before .before .before .args in let f = read-shape (a .stepper) (now (a .state)) (now (a .work)) (now (a .pivots)) the-rhs-stages (c .before .before .decision-refusal .ensures) (c .before .if1 .left) in let h = f .s-to-8 in (f .n-to-32, omega arith)
 
 add-shown : tie.Need-add-shown
 add-shown c = search needs
 
 times-requires-2 : tie.Need-times-requires-2
 unfolding queryTests
-times-requires-2 c κs = let a = c .before .before .before .before .before .before .before .before .before .args in let f = read-shape (a .stepper) (now (a .state)) (now (a .work)) (now (a .pivots)) the-rhs-stages (c .before .before .before .decision-refusal .ensures) (c .before .before .if1 .left) in (f .n-to-32, f .s-to-8)
+times-requires-2 c κs = let a = c .before .before .before .before .before .before .before .before .before .args in let f = read-shape (a .stepper) (now (a .state)) (now (a .work)) (now (a .pivots)) the-rhs-stages (c .before .before .before .decision-refusal .ensures) (c .before .before .if1 .left) in let h = f .s-to-8 in (f .n-to-32, omega arith)
 
 shown-requires : tie.Need-shown-requires
 shown-requires c κs = tt

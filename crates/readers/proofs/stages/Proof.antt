@@ -2,6 +2,7 @@
 use mathlib.Core.Path.{refl}
 use denote.Ref.{now}
 use Prim.Native.Nat.{_*_}
+use native.Mathlib.Omega.{arith}
 use Rattle.stages.specs.Layout.{stagesAt}
 use Rattle.refusals.specs.Answers.{stagesShown}
 use Rattle.rosenbrock.specs.Readers.{the-stages, queryTests, reply}
@@ -23,7 +24,7 @@ stages-at-requires c κs = let a = c .before .before .before .before .before .be
 
 times-requires : tie.Need-times-requires
 unfolding queryTests
-times-requires c κs = let a = c .before .before .before .before .before .before .before .before .args in let f = read-shape (a .stepper) (now (a .state)) (now (a .work)) (now (a .pivots)) the-stages (c .before .before .decision-refusal .ensures) (c .before .if1 .left) in (f .n-to-32, f .s-to-8)
+times-requires c κs = let a = c .before .before .before .before .before .before .before .before .args in let f = read-shape (a .stepper) (now (a .state)) (now (a .work)) (now (a .pivots)) the-stages (c .before .before .decision-refusal .ensures) (c .before .if1 .left) in let h = f .s-to-8 in (f .n-to-32, omega arith)
 
 shown-requires : tie.Need-shown-requires
 shown-requires c κs = tt
