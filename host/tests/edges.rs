@@ -200,18 +200,7 @@ fn the_new_time_is_not_always_the_views_end() {
     let end = time + step;
     let new_time = time + (end - time);
     assert_ne!(new_time, end);
-    let pond = Coefficients {
-        hybrid: false,
-        step_doubling: false,
-        gamma: 1.0,
-        a: vec![],
-        coupling: vec![],
-        c: vec![0.0],
-        d: vec![1.0],
-        b: vec![1.0],
-        btilde: None,
-    };
-    let mut stepper = RosenbrockStepper::new(&pond.file(), time, &[1.0]).unwrap();
+    let mut stepper = RosenbrockStepper::new(&Coefficients::pond().file(), time, &[1.0]).unwrap();
     let mut still = |_: f64, _: &[f64], out: &mut [f64]| -> Result<(), StepError<()>> {
         out[0] = 0.0;
         Ok(())
