@@ -217,13 +217,13 @@ impl Stepper {
     }
 
     fn dump(&self) -> String {
-        let memo = &self.record.progress.memo;
         let progress = &self.record.progress;
+        let derivative = reading::derivative(&self.record, &self.memory);
         let pending = (progress.request == 1).then_some(progress.step);
         let mut text = format!(
             "ok derivative={} differentiation={} pending={}",
-            u8::from(memo.derivative_valid),
-            u8::from(memo.differentiation_valid),
+            u8::from(derivative.is_ok_and(|d| d.is_some())),
+            u8::from(progress.memo.differentiation_valid),
             option(pending)
         );
         for (name, which) in [

@@ -5,10 +5,10 @@ use Rattle.stepper_host.proofs.wiqhano_stepper_accept.Statement.{statem
 use Rattle.stepper_host.proofs.wiqhano_stepper_accept.Tie as tie
 
 accept-requires : tie.Need-accept-requires
-accept-requires c κs = search needs
+accept-requires c κs = tt
 
 step-answer-requires : tie.Need-step-answer-requires
-step-answer-requires c κs = search needs
+step-answer-requires c κs = tt
 
 same-length : tie.Need-same-length
 same-length c = search needs

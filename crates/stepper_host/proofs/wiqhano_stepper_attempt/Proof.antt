@@ -5,10 +5,10 @@ use Rattle.stepper_host.proofs.wiqhano_stepper_attempt.Statement.{state
 use Rattle.stepper_host.proofs.wiqhano_stepper_attempt.Tie as tie
 
 attempt-requires : tie.Need-attempt-requires
-attempt-requires c κs = search needs
+attempt-requires c κs = tt
 
 step-answer-requires : tie.Need-step-answer-requires
-step-answer-requires c κs = search needs
+step-answer-requires c κs = tt
 
 same-length : tie.Need-same-length
 same-length c = search needs

@@ -5,10 +5,10 @@ use Rattle.stepper_host.proofs.wiqhano_stepper_attempt_to.Statement.{st
 use Rattle.stepper_host.proofs.wiqhano_stepper_attempt_to.Tie as tie
 
 attempt-to-requires : tie.Need-attempt-to-requires
-attempt-to-requires c κs = search needs
+attempt-to-requires c κs = tt
 
 step-answer-requires : tie.Need-step-answer-requires
-step-answer-requires c κs = search needs
+step-answer-requires c κs = tt
 
 same-length : tie.Need-same-length
 same-length c = search needs

@@ -5,10 +5,10 @@ use Rattle.stepper_host.proofs.wiqhano_stepper_inject_derivative.Statem
 use Rattle.stepper_host.proofs.wiqhano_stepper_inject_derivative.Tie as tie
 
 inject-derivative-requires : tie.Need-inject-derivative-requires
-inject-derivative-requires c κs = search needs
+inject-derivative-requires c κs = tt
 
 step-answer-requires : tie.Need-step-answer-requires
-step-answer-requires c κs = search needs
+step-answer-requires c κs = tt
 
 same-length : tie.Need-same-length
 same-length c = search needs

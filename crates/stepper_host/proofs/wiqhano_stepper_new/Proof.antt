@@ -5,7 +5,7 @@ use Rattle.stepper_host.proofs.wiqhano_stepper_new.Statement.{statement
 use Rattle.stepper_host.proofs.wiqhano_stepper_new.Tie as tie
 
 new-requires : tie.Need-new-requires
-new-requires c κs = search needs
+new-requires c κs = tt
 
 enum-known-stepper : tie.Need-enum-known-stepper
 enum-known-stepper c = search needs
@@ -14,7 +14,7 @@ enum-known-number : tie.Need-enum-known-number
 enum-known-number c = search needs
 
 blank-stepper-requires : tie.Need-blank-stepper-requires
-blank-stepper-requires c κs = search needs
+blank-stepper-requires c κs = tt
 
 same-length : tie.Need-same-length
 same-length c = search needs

@@ -1,14 +1,13 @@
 -- `stepper_host::wiqhano_stepper_reject` meets its contract. Assumes nothing.
-use borrow.Author.Needs.{needs}
 use Rattle.stepper_host.proofs.Steps.{step-handed}
 use Rattle.stepper_host.proofs.wiqhano_stepper_reject.Statement.{statement}
 use Rattle.stepper_host.proofs.wiqhano_stepper_reject.Tie as tie
 
 reject-requires : tie.Need-reject-requires
-reject-requires c κs = search needs
+reject-requires c κs = tt
 
 step-answer-requires : tie.Need-step-answer-requires
-step-answer-requires c κs = search needs
+step-answer-requires c κs = tt
 
 returns : tie.Need-returns
 returns c = step-handed _ _ _ _ (c .step-answer .ensures) (c .before .reject .ensures)

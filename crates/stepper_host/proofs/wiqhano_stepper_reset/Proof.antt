@@ -5,10 +5,10 @@ use Rattle.stepper_host.proofs.wiqhano_stepper_reset.Statement.{stateme
 use Rattle.stepper_host.proofs.wiqhano_stepper_reset.Tie as tie
 
 reset-requires : tie.Need-reset-requires
-reset-requires c κs = search needs
+reset-requires c κs = tt
 
 step-answer-requires : tie.Need-step-answer-requires
-step-answer-requires c κs = search needs
+step-answer-requires c κs = tt
 
 same-length : tie.Need-same-length
 same-length c = search needs

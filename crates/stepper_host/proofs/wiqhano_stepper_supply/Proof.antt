@@ -5,10 +5,10 @@ use Rattle.stepper_host.proofs.wiqhano_stepper_supply.Statement.{statem
 use Rattle.stepper_host.proofs.wiqhano_stepper_supply.Tie as tie
 
 supply-requires : tie.Need-supply-requires
-supply-requires c κs = search needs
+supply-requires c κs = tt
 
 step-answer-requires : tie.Need-step-answer-requires
-step-answer-requires c κs = search needs
+step-answer-requires c κs = tt
 
 same-length : tie.Need-same-length
 same-length c = search needs
