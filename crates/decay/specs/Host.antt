@@ -11,6 +11,7 @@ use Rattle.rosenbrock.specs.Stepper.{attempt, supply, accept, read, by-value, S
 use Rattle.method.specs.Step.{Problem}
 use Rattle.method.specs.Conversation.{answerTo}
 
+-- y′ = -y
 unfoldable pub decay : Problem
 decay = record { f = λ t y. neg (el y 0) ∷ []; J = λ t y. neg 𝟏 ∷ []; fₜ = λ t y. 𝟎 ∷ [] }
 
@@ -29,7 +30,7 @@ suppliedBy (asked q) = 𝟎 ∷ []
 suppliedBy (shown v) = 𝟎 ∷ []
 suppliedBy done = 𝟎 ∷ []
 
--- the host answers what is asked
+-- the host reads what is asked and supplies it
 unfoldable pub ifAsked : Answer → Next → Next → Next
 ifAsked (asked q) next now = next
 ifAsked (refused k) next now = now
@@ -42,11 +43,12 @@ answeredOnce file r =
     let y = r .system in
     ifAsked (r .answer) (stepped (supply file (suppliedBy (stepped (read the-request) y .answer))) y) r
 
+-- k times
 unfoldable pub answered : ℕ → List ℕ → Next → Next
 answered zero file r = r
 answered (suc k) file r = answeredOnce file (answered k file r)
 
--- and accepts what is shown
+-- it accepts what is shown
 unfoldable pub ifShown : Answer → Next → Next → Next
 ifShown (shown v) next now = next
 ifShown (refused k) next now = now
@@ -57,6 +59,6 @@ ifShown done next now = now
 unfoldable pub decided : Next → Next
 decided r = ifShown (r .answer) (stepped (accept by-value) (r .system)) r
 
--- One step by 1. It asks for the derivative, the Jacobian, the time partial and at most 8 stages.
+-- One step by 1. It asks for the derivative, the Jacobian, the time partial and at most 8 stages, so 11 answers are enough (steps_end).
 unfoldable pub oneStep : List ℕ → System → Next
 oneStep file y = decided (answered 11 file (stepped (attempt file 𝟏 true true) y))

@@ -2,6 +2,7 @@
 use Prim.Native.Nat.{ℕ}
 use mathlib.Core.Path.{_≡_, refl, sym, ap, _∙_}
 use mathlib.Core.List.{List}
+use lib.ListN.{length}
 use lib.Ieee.{Float}
 use Rattle.float.specs.Operators.{𝟎}
 use Rattle.time_difference.specs.declared.TimeDifferencePolicy.{TimeDifferencePolicy}
@@ -16,6 +17,7 @@ use Rattle.rosenbrock.specs.Stepper.{Next, needed, trimmed, Made, not-made, mad
 use Rattle.rosenbrock.specs.Contracts.{answerBy, nextOf, AfterMaking, memoryAfter, makingOf, madeBy}
 use Rattle.forecast.specs.declared.Forecast.{Forecast}
 use Rattle.forecast.specs.declared.Forecast.the-variants.{Reached, Refused, Over}
+use Rattle.text.specs.Lines.{withText}
 use Rattle.forecast.specs.Pond.{Pond, pondOf, afterMaking, begun, standing, afterStep, advancedBy, advanced, lineBy}
 
 -- ---- the making
@@ -58,5 +60,9 @@ module _ (o : Outcome) (s w : List Float) (p : List ℕ) where
 
 -- ---- the line
 
-pub line-known : (k : ℕ) (f : Forecast) {p : Forecast} (s : List Float) {r : List ℕ} → f ≡ p → r ≡ lineBy k p s → r ≡ lineBy k f s
-line-known k f s e h = h ∙ ap (λ (q : Forecast). lineBy k q s) (sym e)
+module _ (k : ℕ) (f : Forecast) (s : List Float) (old : List ℕ) where
+  pub line-long : {g : Forecast} {text : List ℕ} {r : ℕ} → f ≡ g → text ≡ lineBy k g s → r ≡ length text → r ≡ length (lineBy k f s)
+  line-long e h n = n ∙ ap length (h ∙ ap (λ (q : Forecast). lineBy k q s) (sym e))
+
+  pub line-put : {g : Forecast} {text new : List ℕ} → f ≡ g → text ≡ lineBy k g s → new ≡ withText old 0 text → new ≡ withText old 0 (lineBy k f s)
+  line-put e h p = p ∙ ap (withText old 0) (h ∙ ap (λ (q : Forecast). lineBy k q s) (sym e))

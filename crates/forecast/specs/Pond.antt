@@ -2,8 +2,9 @@
 -- the lines so far. Definitions only.
 use Prim.Native.Nat.{ℕ}
 use mathlib.Core.List.{List, [], _∷_, _++_}
+use lib.ListN.{replicate}
 use lib.Ieee.{Float}
-use Rattle.float.specs.Operators.{𝟎}
+use Rattle.float.specs.Operators.{𝟎, 𝟏}
 use Rattle.vector.specs.Lists.{el}
 use Rattle.time_difference.specs.Policy.{defaultPolicy}
 use Rattle.rosenbrock.specs.declared.RosenbrockStepper.{RosenbrockStepper}
@@ -30,7 +31,7 @@ afterMaking (made y) m = record { forecast = Reached (y .stepper); lent = y .len
 unfoldable pub begun : List ℕ → Lent → Pond
 begun file m = afterMaking (make file defaultPolicy 𝟎 m) m
 
--- a step; nothing comes after a refusal
+-- where a step leaves it: done or refused, and it never ends otherwise (steps_end)
 unfoldable pub standing : Answer → RosenbrockStepper → Forecast
 standing done y = Reached y
 standing (refused k) y = Refused k
@@ -41,6 +42,7 @@ standing (told r) y = Over
 unfoldable pub afterStep : Next → Pond
 afterStep r = record { forecast = standing (r .answer) (r .system .stepper); lent = r .system .lent }
 
+-- a step; nothing comes after a refusal
 unfoldable pub advancedBy : Forecast → List ℕ → Lent → Pond
 advancedBy (Reached y) file m = afterStep (oneStep file (record { stepper = y; lent = m }))
 advancedBy (Refused k) file m = record { forecast = Over; lent = m }
@@ -49,7 +51,7 @@ advancedBy Over file m = record { forecast = Over; lent = m }
 unfoldable pub advanced : List ℕ → Pond → Pond
 advanced file p = advancedBy (p .forecast) file (p .lent)
 
--- the line of it
+-- its line
 unfoldable pub lineBy : ℕ → Forecast → List Float → List ℕ
 lineBy k (Reached y) state = stepLine k (y .progress .time) (el state 0)
 lineBy k (Refused j) state = refusedLine j
@@ -62,10 +64,14 @@ lineOf k p = lineBy k (p .forecast) (p .lent .state)
 unfoldable pub header : List ℕ
 header = 115 ∷ 116 ∷ 101 ∷ 112 ∷ 32 ∷ 116 ∷ 105 ∷ 109 ∷ 101 ∷ 32 ∷ 115 ∷ 116 ∷ 97 ∷ 116 ∷ 101 ∷ 10 ∷ []
 
--- all that is printed, for a file and the memory that is lent
-unfoldable pub printed : List ℕ → Lent → List ℕ
-printed file m =
-    let p₀ = begun file m in
+-- y = 1, with the work and the pivot that the program lends
+unfoldable pub start : Lent
+start = lending (𝟏 ∷ []) (replicate 2816 𝟎) (0 ∷ [])
+
+-- all that is printed for a file
+unfoldable pub printed : List ℕ → List ℕ
+printed file =
+    let p₀ = begun file start in
     let p₁ = advanced file p₀ in
     let p₂ = advanced file p₁ in
     header ++ lineOf 0 p₀ ++ lineOf 1 p₁ ++ lineOf 2 p₂

@@ -1,8 +1,9 @@
 // What pond prints: the making, a step, the line after each, and the program itself.
 ghost use mathlib.Core.Path.{_≡_};
-ghost use lib.ListN.{take};
+ghost use lib.ListN.{length};
 ghost use Rattle.io.specs.Counts.{Counts};
 ghost use Rattle.refusals.specs.Answers.{lending};
+ghost use Rattle.text.specs.Lines.{withText};
 ghost use Rattle.forecast.specs.Pond.{pondOf, begun, advanced, lineBy};
 use rosenbrock::Answer;
 use rosenbrock::Making;
@@ -70,7 +71,7 @@ fn wide(number: u32) -> u64
 
 // The line that is printed: its bytes from the start of out on. Answers how many.
 pub fn line(step: u64, forecast: Forecast, state: &[f64], out: &mut [u8; 64]) -> usize
-    ensures { λ r. ⌜ Counts r (now (out .exit)) × (take r (now (out .exit)) ≡ lineBy step forecast (now (state .entry))) ⌝ }
+    ensures { λ r. ⌜ Counts r (now (out .exit)) × (r ≡ length (lineBy step forecast (now (state .entry)))) × (now (out .exit) ≡ withText (now (out .entry)) 0 (lineBy step forecast (now (state .entry)))) ⌝ }
 {
     match forecast {
         Forecast::Reached(stepper) => {

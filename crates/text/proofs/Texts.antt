@@ -6,19 +6,18 @@ use mathlib.Core.List.{List, [], _∷_, _++_}
 use native.Mathlib.Nat.{pow-suc, one-le-pow, mod-eq-of-lt, pow-le-pow-right}
 use native.Mathlib.Omega.{arith}
 use lib.Dec.{ltb, leb}
-use lib.ListN.{length, take}
-use lib.Seq.{paste, take-paste, take-all, length-take-le}
+use lib.ListN.{length, take, drop, length-append}
+use lib.Seq.{paste, take-length, take-at, drop-at, drop-drop, length-take-le}
 use borrow.Author.Tests.{lt-ltb, le-ltb, leb-true, leb-false}
 use lib.Ieee.{Float, binary64, toBits}
 use Rattle.io.specs.Counts.{Counts}
 use Rattle.io.specs.Digits.{glyph, digits, Fewest}
-use Rattle.text.specs.Lines.{decimalUpTo, decimal, hexadecimal}
+use Rattle.text.specs.Lines.{decimalUpTo, decimal, hexadecimal, withText}
 
 -- what a copy of all of s leaves
-pub pasted : (d : List ℕ) (at : ℕ) (s : List ℕ) (i : ℕ) (o : List ℕ) → i ≤ length s → length s ≤ i → at + length s ≤ length d → o ≡ paste d at s i
-    → take (at + i) o ≡ take at d ++ s
-pasted d at s i o h l room e =
-    ap (take (at + i)) e ∙ take-paste d at s i (omega arith) h ∙ ap (λ (r : List ℕ). take at d ++ r) (take-all i s l)
+pub pasted : (d : List ℕ) (at : ℕ) (s : List ℕ) (i : ℕ) {o : List ℕ} → i ≡ length s → o ≡ paste d at s i → o ≡ withText d at s
+unfolding withText
+pasted d at s i h e = e ∙ ap (paste d at s) h ∙ ap (λ (l : List ℕ). take at d ++ l ++ drop (at + length s) d) (take-length s)
 
 -- the fewest digits are those with no zero in front
 pub fewest : (k r n : ℕ) → r ≤ suc k → Fewest 10 1 n r → digits 10 r n ≡ decimalUpTo k n
@@ -47,19 +46,37 @@ few b l n r k pos low fits f = go (leb r k) refl
         let least : b ^ (r - 1) ≤ n = f .2 (omega arith) in
         absurd (omega (arith, pow-le-pow-right pos {i = k} {j = r - 1} (omega arith)))
 
--- what io::decimal and io::hex put, after other text
-pub decimal-after : (front : List ℕ) {o bytes : List ℕ} {r n : ℕ} → r ≤ 20 → Fewest 10 1 n r → bytes ≡ digits 10 r n → o ≡ front ++ bytes → o ≡ front ++ decimal n
+-- what io::decimal and io::hex put
+pub decimal-is : {bytes : List ℕ} {r n : ℕ} → r ≤ 20 → Fewest 10 1 n r → bytes ≡ digits 10 r n → bytes ≡ decimal n
 unfolding decimal
-decimal-after front {r = r} {n = n} h f d e = e ∙ ap (λ (l : List ℕ). front ++ l) (d ∙ fewest 19 r n h f)
+decimal-is {r = r} {n = n} h f d = d ∙ fewest 19 r n h f
 
-pub hexadecimal-after : (front : List ℕ) (r : ℕ) (x : Float) {o bytes : List ℕ} → r ≡ 16 → bytes ≡ digits 16 r (toBits binary64 x) → o ≡ front ++ bytes
-    → o ≡ front ++ hexadecimal x
+pub hexadecimal-is : (r : ℕ) (x : Float) {bytes : List ℕ} → r ≡ 16 → bytes ≡ digits 16 r (toBits binary64 x) → bytes ≡ hexadecimal x
 unfolding hexadecimal
-hexadecimal-after front r x h d e = e ∙ ap (λ (l : List ℕ). front ++ l) (d ∙ ap (λ (k : ℕ). digits 16 k (toBits binary64 x)) h)
+hexadecimal-is r x h d = d ∙ ap (λ (k : ℕ). digits 16 k (toBits binary64 x)) h
 
 -- text after text that is known
-pub after : {o front known : List ℕ} (text : List ℕ) → front ≡ known → o ≡ front ++ text → o ≡ known ++ text
-after text k e = e ∙ ap (λ (l : List ℕ). l ++ text) k
+module _ (out known text : List ℕ) {o o′ : List ℕ} {r : ℕ} (e : o ≡ withText out 0 known) (h : r ≡ length known) (g : o′ ≡ withText o r text) where
+  front : take r o ≡ known
+  unfolding withText
+  front = ap (take r) e ∙ take-at known (drop (0 + length known) out) r (sym h)
+
+  back : drop (r + length text) o ≡ drop (0 + length (known ++ text)) out
+  unfolding withText
+  back =
+      let k : 0 + length known + length text ≡ 0 + length (known ++ text) = omega (arith, length-append known text) in
+      sym (drop-drop (length text) r o)
+      ∙ ap (drop (length text)) (ap (drop r) e ∙ drop-at known (drop (0 + length known) out) r (sym h))
+      ∙ drop-drop (length text) (0 + length known) out
+      ∙ ap (λ (i : ℕ). drop i out) k
+
+  pub after : o′ ≡ withText out 0 (known ++ text)
+  unfolding withText
+  after = g ∙ ap (λ (l : List ℕ). l ++ text ++ drop (r + length text) o) front ∙ ap (λ (l : List ℕ). known ++ text ++ l) back
+
+-- and the length so far
+pub longer : (known text : List ℕ) (r r′ : ℕ) → r ≡ length known → r′ ≡ r + length text → r′ ≡ length (known ++ text)
+longer known text r r′ h g = omega (arith, length-append known text)
 
 pub counts : (r : ℕ) (o : List ℕ) → r ≤ length o → Counts r o
 counts r o h = (h, sym (length-take-le r o h))

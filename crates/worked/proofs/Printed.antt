@@ -2,9 +2,7 @@
 use mathlib.Core.Path.{_≡_, refl}
 use Prim.Native.Nat.{ℕ}
 use mathlib.Core.List.{List, [], _∷_, _++_}
-use lib.ListN.{replicate}
 use lib.Ieee as ieee
-use Rattle.refusals.specs.Answers.{Lent}
 use Rattle.rosenbrock.specs.Readers as readers
 use Rattle.method.specs.Conversation as conversation
 use Rattle.text.specs.Lines as text
@@ -12,16 +10,11 @@ use Rattle.decay.specs.Host as host
 use Rattle.forecast.specs.Pond as pond
 use Rattle.forecast.specs.Pond.{printed}
 use Rattle.worked.proofs.Opened.{computing}
-use Rattle.worked.proofs.Seeing.{bits}
 use Rattle.worked.proofs.Pond.{file}
 
 unfoldable pub printing : Unit {0}
-unfolding ieee.neg readers.queryTests readers.reply readers.answered readers.readOf conversation.answerTo text.decimalUpTo text.decimal text.hexadecimal text.stepLine text.refusedLine host.decay host.suppliedTo host.suppliedBy host.ifAsked host.answeredOnce host.answered host.ifShown host.decided host.oneStep pond.afterMaking pond.begun pond.standing pond.afterStep pond.advancedBy pond.advanced pond.lineBy pond.lineOf pond.header pond.printed
+unfolding ieee.neg readers.queryTests readers.reply readers.answered readers.readOf conversation.answerTo text.decimalUpTo text.decimal text.hexadecimal text.stepLine text.refusedLine host.decay host.suppliedTo host.suppliedBy host.ifAsked host.answeredOnce host.answered host.ifShown host.decided host.oneStep pond.afterMaking pond.begun pond.standing pond.afterStep pond.advancedBy pond.advanced pond.lineBy pond.lineOf pond.header pond.start pond.printed
 printing = tt
-
--- what the program lends
-unfoldable pub lent : Lent
-lent = record { state = bits 0x3ff0_0000_0000_0000 ∷ []; work = replicate 2816 (bits 0); pivots = 0 ∷ [] }
 
 -- step time state
 abbrev header-text : List ℕ
@@ -39,6 +32,6 @@ line-1-text = 49 ∷ 32 ∷ 51 ∷ 102 ∷ 102 ∷ 48 ∷ 48 ∷ 48 ∷ 48 ∷ 4
 abbrev line-2-text : List ℕ
 line-2-text = 50 ∷ 32 ∷ 52 ∷ 48 ∷ 48 ∷ 48 ∷ 48 ∷ 48 ∷ 48 ∷ 48 ∷ 48 ∷ 48 ∷ 48 ∷ 48 ∷ 48 ∷ 48 ∷ 48 ∷ 48 ∷ 32 ∷ 51 ∷ 102 ∷ 100 ∷ 48 ∷ 48 ∷ 48 ∷ 48 ∷ 48 ∷ 48 ∷ 48 ∷ 48 ∷ 48 ∷ 48 ∷ 48 ∷ 48 ∷ 48 ∷ 10 ∷ []
 
-pub pond-prints : printed file lent ≡ header-text ++ line-0-text ++ line-1-text ++ line-2-text
-unfolding computing printing file lent
+pub pond-prints : printed file ≡ header-text ++ line-0-text ++ line-1-text ++ line-2-text
+unfolding computing printing file
 pond-prints = refl

@@ -1,10 +1,10 @@
 -- `forecast::line` meets its contract. Assumes nothing.
-use mathlib.Core.Path.{refl, ap, _∙_}
+use mathlib.Core.Path.{refl, ap}
 use native.Mathlib.Omega.{arith}
 use denote.Ref.{now}
-use Rattle.text.specs.Lines.{stepLine, refusedLine}
+use Rattle.text.specs.Lines.{stepLine, refusedLine, withText}
 use Rattle.forecast.specs.Pond.{lineBy}
-use Rattle.forecast.proofs.Cases.{line-known}
+use Rattle.forecast.proofs.Cases.{line-long, line-put}
 use borrow.Author.Needs.{needs}
 use Rattle.forecast.proofs.line.Statement.{statement}
 use Rattle.forecast.proofs.line.Tie as tie
@@ -20,7 +20,11 @@ step-line-requires c κs = search needs
 
 returns : tie.Need-returns
 unfolding lineBy
-returns c = let q = c .before .before .before .before .before .before .before .before .args in (c .step-line .ensures .0, line-known (q .step) (q .forecast) (now (q .state)) (c .before .before .before .before .before .forecast .given .1) (c .step-line .ensures .1 ∙ ap (stepLine (q .step) _) (c .before .before .first .ensures)))
+returns c =
+    let q = c .before .before .before .before .before .before .before .before .args in
+    let e = c .before .before .before .before .before .forecast .given .1 in
+    let t = ap (stepLine (q .step) _) (c .before .before .first .ensures) in
+    (c .step-line .ensures .0, line-long (q .step) (q .forecast) (now (q .state)) (now (q .out)) e t (c .step-line .ensures .1), line-put (q .step) (q .forecast) (now (q .state)) (now (q .out)) e t (c .step-line .ensures .2))
 
 enum-known-forecast-2 : tie.Need-enum-known-forecast-2
 enum-known-forecast-2 c = search needs
@@ -33,14 +37,21 @@ refused-line-requires c κs = search needs
 
 returns-2 : tie.Need-returns-2
 unfolding lineBy
-returns-2 c = let q = c .before .before .before .before .before .before .before .args in (c .refused-line .ensures .0, line-known (q .step) (q .forecast) (now (q .state)) (c .before .before .before .before .forecast2 .given .1) (c .refused-line .ensures .1 ∙ ap refusedLine (c .before .before .wide .ensures)))
+returns-2 c =
+    let q = c .before .before .before .before .before .before .before .args in
+    let e = c .before .before .before .before .forecast2 .given .1 in
+    let t = ap refusedLine (c .before .before .wide .ensures) in
+    (c .refused-line .ensures .0, line-long (q .step) (q .forecast) (now (q .state)) (now (q .out)) e t (c .refused-line .ensures .1), line-put (q .step) (q .forecast) (now (q .state)) (now (q .out)) e t (c .refused-line .ensures .2))
 
 enum-told : tie.Need-enum-told
 enum-told c = search needs
 
 returns-3 : tie.Need-returns-3
-unfolding lineBy
-returns-3 c = let q = c .before .before .before .args in ((omega arith, refl), line-known (q .step) (q .forecast) (now (q .state)) (c .enum-told .given .1) refl)
+unfolding lineBy withText
+returns-3 c =
+    let q = c .before .before .before .args in
+    let e = c .enum-told .given .1 in
+    ((omega arith, refl), line-long (q .step) (q .forecast) (now (q .state)) (now (q .out)) e refl refl, line-put (q .step) (q .forecast) (now (q .state)) (now (q .out)) e refl refl)
 
 pub line-spec : {M : Type 1} → statement M
 line-spec =

@@ -51,7 +51,8 @@ returns : tie.Need-returns Inv-loop μ-loop
 returns c =
     let q = c .before .before .args in
     let l = c .before .loop in
-    (omega arith, pasted (q .out .now) (q .at) (q .bytes .now) (l .i) (l .out) (omega arith) (omega arith) (omega arith) (l .inv .2))
+    let e : l .i ≡ length (q .bytes .now) = omega arith in
+    (omega arith, pasted (q .out .now) (q .at) (q .bytes .now) (l .i) e (l .inv .2))
 
 pub append-spec : {M : Type 1} → statement M
 append-spec =

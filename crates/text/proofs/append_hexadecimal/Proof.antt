@@ -2,10 +2,13 @@
 use borrow.Author.Needs.{needs}
 use mathlib.Core.Path.{_≡_, ap, _∙_}
 use native.Mathlib.Omega.{arith}
-use lib.ListN.{take}
+use mathlib.Core.List.{List}
+use Prim.Native.Nat.{ℕ, _+_}
+use lib.ListN.{length}
+use Rattle.text.specs.Lines.{withText}
 use denote.Ref.{now}
 use Rattle.io.specs.Digits.{digits}
-use Rattle.text.proofs.Texts.{few, hexadecimal-after}
+use Rattle.text.proofs.Texts.{few, hexadecimal-is}
 use Rattle.text.proofs.append_hexadecimal.Statement.{statement}
 use Rattle.text.proofs.append_hexadecimal.Tie as tie
 
@@ -36,8 +39,10 @@ returns c =
     let n = c .before .before .before .before .before .before .before .bits-of in
     let q = c .before .before .before .before .before .before .before .before .before .args in
     let h = few 16 16 (n .result) (d .result) 16 (omega arith) (omega arith) (omega arith) (d .ensures .1 .0) in
-    let e : d .result ≡ 16 = omega (arith, h, d .ensures .1 .0 .0) in
-    (omega arith, hexadecimal-after (take (q .at) (now (q .out))) (d .result) (q .x) e (d .ensures .1 .1 ∙ ap (digits 16 (d .result)) (n .ensures)) (c .before .before .append .ensures .1))
+    let sixteen : d .result ≡ 16 = omega (arith, h, d .ensures .1 .0 .0) in
+    let e = hexadecimal-is (d .result) (q .x) sixteen (d .ensures .1 .1 ∙ ap (digits 16 (d .result)) (n .ensures)) in
+    let a = c .before .before .append .ensures in
+    (omega arith, a .0 ∙ ap (λ (l : List ℕ). q .at + length l) e, a .1 ∙ ap (withText (now (q .out)) (q .at)) e)
 
 pub append-hexadecimal-spec : {M : Type 1} → statement M
 append-hexadecimal-spec =

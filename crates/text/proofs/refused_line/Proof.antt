@@ -1,8 +1,12 @@
 -- `text::refused_line` meets its contract. Assumes nothing.
 use borrow.Author.Needs.{needs}
+use mathlib.Core.Path.{_≡_}
+use mathlib.Core.List.{_++_}
+use lib.ListN.{length}
+use denote.Ref.{now}
 use native.Mathlib.Omega.{arith}
-use Rattle.text.specs.Lines.{decimal, newline, refusedLine}
-use Rattle.text.proofs.Texts.{after, counts}
+use Rattle.text.specs.Lines.{refusedWord, decimal, newline, refusedLine}
+use Rattle.text.proofs.Texts.{after, longer, counts}
 use Rattle.text.proofs.refused_line.Statement.{statement}
 use Rattle.text.proofs.refused_line.Tie as tie
 
@@ -23,10 +27,13 @@ unfolding refusedLine
 returns c =
     let c₂ = c .before .before in
     let c₁ = c₂ .before .before in
-    let q = c₁ .before .before .before .args in (
-      counts (c .append-byte .result) (c .append-byte .last .0) (omega arith),
-      after newline (after (decimal (q .number)) (c₁ .append .ensures .1) (c₂ .append-decimal .ensures .1)) (c .append-byte .ensures .1),
-    )
+    let q = c₁ .before .before .before .args in
+    let out = now (q .out) in
+    let k₂ = refusedWord ++ decimal (q .number) in
+    let h₁ : c₁ .append .result ≡ length refusedWord = omega (arith, c₁ .append .ensures .0) in
+    let h₂ = longer refusedWord (decimal (q .number)) _ _ h₁ (c₂ .append-decimal .ensures .1) in
+    let e₂ = after out refusedWord (decimal (q .number)) (c₁ .append .ensures .1) h₁ (c₂ .append-decimal .ensures .2) in
+    (counts (c .append-byte .result) (c .append-byte .last .0) (omega arith), longer k₂ newline _ _ h₂ (c .append-byte .ensures .0), after out k₂ newline e₂ h₂ (c .append-byte .ensures .1))
 
 pub refused-line-spec : {M : Type 1} → statement M
 refused-line-spec =
