@@ -1,5 +1,6 @@
-/* The calls that the proved library exports, for C11 on x86-64. Link libstepper_host.a for the
-   stepper's and libhost.a for all others (target/staticlib, written by ./test or rt staticlib).
+/* The calls that the proved library exports, for C11 on x86-64. Link libin_place_host.a for the
+   stepper's that end in _in_place, libstepper_host.a for its others and libhost.a for all others
+   (target/staticlib, written by ./test or rt staticlib).
 
    A slice is a pointer and the number of its elements. No call keeps a pointer, and none reads or
    writes beyond the slices that it is lent; slices that are lent to be changed may not overlap others.
@@ -275,6 +276,12 @@ typedef struct {
     uint32_t number;
 } wiqhano_stepper_answer;
 
+/* The same without the record, of a call that changes it where it stands. */
+typedef struct {
+    uint32_t kind;
+    uint32_t number;
+} wiqhano_call_answer;
+
 /* Refused: a blank record, which every call refuses with 1. */
 typedef struct {
     wiqhano_rosenbrock_stepper stepper;
@@ -325,6 +332,27 @@ wiqhano_stepper_answer wiqhano_stepper_reject(wiqhano_rosenbrock_stepper stepper
                                               const double *state, size_t state_len,
                                               const double *work, size_t work_len,
                                               const size_t *pivots, size_t pivots_len);
+/* attempt, attempt_to and supply on the record where it stands. */
+wiqhano_call_answer wiqhano_stepper_attempt_in_place(wiqhano_rosenbrock_stepper *stepper,
+                                                     const uint8_t *file, size_t file_len,
+                                                     double step, bool host_jacobian,
+                                                     bool host_time_partial, const double *state,
+                                                     size_t state_len, double *work,
+                                                     size_t work_len, size_t *pivots,
+                                                     size_t pivots_len);
+wiqhano_call_answer wiqhano_stepper_attempt_to_in_place(wiqhano_rosenbrock_stepper *stepper,
+                                                        const uint8_t *file, size_t file_len,
+                                                        double endpoint, double proposal,
+                                                        bool host_jacobian, bool host_time_partial,
+                                                        const double *state, size_t state_len,
+                                                        double *work, size_t work_len,
+                                                        size_t *pivots, size_t pivots_len);
+wiqhano_call_answer wiqhano_stepper_supply_in_place(wiqhano_rosenbrock_stepper *stepper,
+                                                    const uint8_t *file, size_t file_len,
+                                                    const double *values, size_t values_len,
+                                                    const double *state, size_t state_len,
+                                                    double *work, size_t work_len, size_t *pivots,
+                                                    size_t pivots_len);
 /* accept and reject on the record where it stands: 0, or the refusal's number. */
 uint32_t wiqhano_stepper_accept_in_place(wiqhano_rosenbrock_stepper *stepper, double *state,
                                          size_t state_len, const double *work, size_t work_len,

@@ -1,4 +1,4 @@
-//! What crates/host and crates/stepper_host export, under C's calling convention.
+//! What crates/host, crates/stepper_host and crates/in_place_host export, under C's calling convention.
 
 /// `number`: the refusal, 0 for none.
 #[repr(C)]
@@ -168,6 +168,14 @@ pub struct RosenbrockStepper {
 #[derive(Clone, Copy, Debug)]
 pub struct StepperAnswer {
     pub stepper: RosenbrockStepper,
+    pub kind: u32,
+    pub number: u32,
+}
+
+/// As `StepperAnswer`, of a call that changes the record where it stands.
+#[repr(C)]
+#[derive(Clone, Copy, Debug)]
+pub struct CallAnswer {
     pub kind: u32,
     pub number: u32,
 }
@@ -434,6 +442,48 @@ unsafe extern "C" {
         pivots: *mut usize,
         pivots_len: usize,
     ) -> StepperAnswer;
+    pub fn wiqhano_stepper_attempt_in_place(
+        stepper: *mut RosenbrockStepper,
+        file: *const u8,
+        file_len: usize,
+        step: f64,
+        host_jacobian: bool,
+        host_time_partial: bool,
+        state: *const f64,
+        state_len: usize,
+        work: *mut f64,
+        work_len: usize,
+        pivots: *mut usize,
+        pivots_len: usize,
+    ) -> CallAnswer;
+    pub fn wiqhano_stepper_attempt_to_in_place(
+        stepper: *mut RosenbrockStepper,
+        file: *const u8,
+        file_len: usize,
+        endpoint: f64,
+        proposal: f64,
+        host_jacobian: bool,
+        host_time_partial: bool,
+        state: *const f64,
+        state_len: usize,
+        work: *mut f64,
+        work_len: usize,
+        pivots: *mut usize,
+        pivots_len: usize,
+    ) -> CallAnswer;
+    pub fn wiqhano_stepper_supply_in_place(
+        stepper: *mut RosenbrockStepper,
+        file: *const u8,
+        file_len: usize,
+        values: *const f64,
+        values_len: usize,
+        state: *const f64,
+        state_len: usize,
+        work: *mut f64,
+        work_len: usize,
+        pivots: *mut usize,
+        pivots_len: usize,
+    ) -> CallAnswer;
     pub fn wiqhano_stepper_accept_in_place(
         stepper: *mut RosenbrockStepper,
         state: *mut f64,

@@ -122,10 +122,10 @@ impl List {
         let rejected = std::mem::take(&mut self.rejected);
         Some(if record.progress.request == 1 {
             match r.below(100) {
-                0..45 => decision(r, "accept"),
+                0..45 => formed(r, "accept"),
                 45..76 => {
                     self.rejected = true;
-                    decision(r, "reject")
+                    formed(r, "reject")
                 }
                 76..80 => self.attempt(r, record, false),
                 80..86 => self.attempt_to(r, record),
@@ -139,7 +139,7 @@ impl List {
                 45..70 => self.attempt_to(r, record),
                 70..74 => {
                     let word = r.pick(&["accept", "reject"]);
-                    decision(r, word)
+                    formed(r, word)
                 }
                 74..84 => self.inject(r),
                 84..91 => self.reset(r, record),
@@ -156,7 +156,8 @@ impl List {
             0..9 if rejected => last * 0.5,
             _ => self.step(r, time),
         };
-        format!("attempt {}{}", double(step), modes(r))
+        let line = format!("attempt {}{}", double(step), modes(r));
+        formed(r, &line)
     }
 
     fn attempt_to(&self, r: &mut Random, record: &Record) -> String {
@@ -175,12 +176,9 @@ impl List {
             3 => endpoint - time,
             _ => step,
         };
-        format!(
-            "attempt_to {} {}{}",
-            double(endpoint),
-            double(proposal),
-            modes(r)
-        )
+        let (endpoint, proposal) = (double(endpoint), double(proposal));
+        let line = format!("attempt_to {endpoint} {proposal}{}", modes(r));
+        formed(r, &line)
     }
 
     fn step(&self, r: &mut Random, time: f64) -> f64 {
@@ -233,7 +231,10 @@ impl List {
                 let counters: Vec<String> = (0..7).map(|_| (r.bits() >> 1).to_string()).collect();
                 format!("setstats [{}]", counters.join(","))
             }
-            7 => format!("give {}", vector(&self.values(r, self.n))),
+            7 => {
+                let line = format!("give {}", vector(&self.values(r, self.n)));
+                formed(r, &line)
+            }
             8 => "fail".into(),
             _ => "show".into(),
         }
@@ -266,7 +267,7 @@ impl List {
                 _ => return self.call_while_open(r, record),
             }
         }
-        format!("give {}", vector(&values))
+        formed(r, &format!("give {}", vector(&values)))
     }
 
     /// Now and then one whose matrix is singular, for this step or half of it.
@@ -288,8 +289,8 @@ impl List {
         match r.below(8) {
             0 => self.attempt(r, record, false),
             1 => self.attempt_to(r, record),
-            2 => decision(r, "accept"),
-            3 => decision(r, "reject"),
+            2 => formed(r, "accept"),
+            3 => formed(r, "reject"),
             4 => self.inject(r),
             5 => {
                 let (time, state) = (record.progress.time, self.state(r));
@@ -305,9 +306,9 @@ fn word(r: &mut Random) -> &'static str {
     r.pick(&["make", "makeb"])
 }
 
-/// By value, or in place: the original does not look at the second word.
-fn decision(r: &mut Random, word: &str) -> String {
-    format!("{word}{}", r.pick(&["", " in_place"]))
+/// By value, or in place: the original does not look at the last word.
+fn formed(r: &mut Random, line: &str) -> String {
+    format!("{line}{}", r.pick(&["", " in_place"]))
 }
 
 fn modes(r: &mut Random) -> String {
@@ -505,7 +506,7 @@ pub fn classes() -> Vec<String> {
 
 /// The kind of a call and of its answer. `before` and `after`: the records around it.
 pub fn class(line: &str, before: Option<&Record>, after: Option<&Record>, answer: &str) -> String {
-    let name = if line.ends_with(" in_place") {
+    let name = if decides(line) {
         line
     } else {
         line.split(' ').next().unwrap_or_default()
@@ -551,6 +552,17 @@ pub fn class(line: &str, before: Option<&Record>, after: Option<&Record>, answer
         Some(ask) => format!("{name} at {}: {told}", word_of(ask)),
         None => format!("{name}: {told}"),
     }
+}
+
+/// The name and form of a call that has two forms.
+pub fn form(line: &str) -> Option<String> {
+    let name = line.split(' ').next().unwrap_or_default();
+    let two = ["attempt", "attempt_to", "give", "accept", "reject"];
+    let form = match line.ends_with(" in_place") {
+        true => "in place",
+        false => "by value",
+    };
+    two.contains(&name).then(|| format!("{name} {form}"))
 }
 
 fn decides(name: &str) -> bool {

@@ -157,7 +157,7 @@ impl RosenbrockStepper {
     {
         let modes = modes(&jacobian, &time_partial);
         let lent = self.memory.lend();
-        let answer = calls::attempt(&mut self.record, &self.file, step, modes, lent);
+        let answer = calls::attempt_in_place(&mut self.record, &self.file, step, modes, lent);
         self.attempted(answer, rhs, jacobian, time_partial)
     }
 
@@ -175,7 +175,8 @@ impl RosenbrockStepper {
     {
         let modes = modes(&jacobian, &time_partial);
         let (record, lent) = (&mut self.record, self.memory.lend());
-        let answer = calls::attempt_to(record, &self.file, endpoint, proposal, modes, lent);
+        let answer =
+            calls::attempt_to_in_place(record, &self.file, endpoint, proposal, modes, lent);
         self.attempted(answer, rhs, jacobian, time_partial)
     }
 
@@ -206,7 +207,7 @@ impl RosenbrockStepper {
             };
             told.map_err(StepError::User)?;
             let (record, lent) = (&mut stepper.record, stepper.memory.lend());
-            answer = calls::supply(record, &stepper.file, values, lent);
+            answer = calls::supply_in_place(record, &stepper.file, values, lent);
         }
         drop(open);
         Ok(direct::view(&self.record, &self.memory))

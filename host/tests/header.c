@@ -86,6 +86,30 @@ static wiqhano_rosenbrock_stepper attempted(wiqhano_rosenbrock_stepper stepper)
     return answer.stepper;
 }
 
+/* The same on the record where it stands, by way of attempt or attempt_to. */
+static void attempted_in_place(wiqhano_rosenbrock_stepper *stepper, bool to)
+{
+    wiqhano_call_answer answer =
+        to ? wiqhano_stepper_attempt_to_in_place(stepper, file, 80, 2.0, 5.0, true, true, state, 1,
+                                                 work, 12, pivots, 1)
+           : wiqhano_stepper_attempt_in_place(stepper, file, 80, 1.0, true, true, state, 1, work, 12,
+                                              pivots, 1);
+    while (answer.kind == 1) {
+        wiqhano_reading_answer asked =
+            wiqhano_stepper_request(*stepper, state, 1, work, 12, pivots, 1);
+        double y = asked.kind == 5 ? state[0] : work[asked.at];
+        double value = asked.asked == 1 ? -y : asked.asked == 2 ? -1.0 : 0.0;
+        answer = wiqhano_stepper_supply_in_place(stepper, file, 80, &value, 1, state, 1, work, 12,
+                                                 pivots, 1);
+    }
+    same("kind of an attempt in place", answer.kind, 2);
+    same("number of an attempt in place", answer.number, 0);
+    answer = wiqhano_stepper_attempt_in_place(stepper, file, 80, 1.0, true, true, state, 1, work, 12,
+                                              pivots, 1);
+    same("kind of a second attempt", answer.kind, 0);
+    same("number of a second attempt", answer.number, 14);
+}
+
 static void pond(void)
 {
     pond_file(file);
@@ -111,7 +135,10 @@ static void pond(void)
     same("accept without a candidate",
          wiqhano_stepper_accept_in_place(&stepper, state, 1, work, 12, pivots, 1), 15);
 
-    stepper = attempted(stepper);
+    attempted_in_place(&stepper, false);
+    same("reject in place",
+         wiqhano_stepper_reject_in_place(&stepper, state, 1, work, 12, pivots, 1), 0);
+    attempted_in_place(&stepper, true);
     wiqhano_stepper_answer accepted =
         wiqhano_stepper_accept(stepper, state, 1, work, 12, pivots, 1);
     same("accept", accepted.kind, 3);
@@ -119,7 +146,7 @@ static void pond(void)
     wiqhano_statistics_answer counters =
         wiqhano_stepper_statistics(accepted.stepper, state, 1, work, 12, pivots, 1);
     same("accepted steps", counters.statistics.accepted_steps, 2);
-    same("solves", counters.statistics.linear_solves, 2);
+    same("solves", counters.statistics.linear_solves, 3);
     double copy[2] = {7.5, 7.5};
     same("copy to another length",
          wiqhano_stepper_copy_state_into(accepted.stepper, copy, 2, state, 1, work, 12, pivots, 1),

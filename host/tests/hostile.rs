@@ -20,6 +20,9 @@ enum Kind {
     Attempt,
     AttemptTo,
     Supply,
+    AttemptInPlace,
+    AttemptToInPlace,
+    SupplyInPlace,
     Fail,
     Accept,
     Reject,
@@ -34,6 +37,9 @@ const KINDS: &[Kind] = &[
     Kind::Attempt,
     Kind::AttemptTo,
     Kind::Supply,
+    Kind::AttemptInPlace,
+    Kind::AttemptToInPlace,
+    Kind::SupplyInPlace,
     Kind::Fail,
     Kind::Accept,
     Kind::Reject,
@@ -42,6 +48,20 @@ const KINDS: &[Kind] = &[
     Kind::Inject,
     Kind::Reset,
 ];
+
+impl Kind {
+    fn attempts(self) -> bool {
+        use Kind::{Attempt, AttemptInPlace, AttemptTo, AttemptToInPlace};
+        matches!(
+            self,
+            Attempt | AttemptTo | AttemptInPlace | AttemptToInPlace
+        )
+    }
+
+    fn supplies(self) -> bool {
+        matches!(self, Kind::Supply | Kind::SupplyInPlace)
+    }
+}
 
 /// A file, and what is true of it by the way it was made.
 #[derive(Clone, Debug)]
@@ -290,9 +310,9 @@ fn case(r: &mut Random) -> Case {
     } else {
         n
     };
-    let values = match kind {
-        Kind::Supply => length(r, fits, wanted),
-        _ => length(r, fits, n),
+    let values = match kind.supplies() {
+        true => length(r, fits, wanted),
+        false => length(r, fits, n),
     };
     let mut case = Case {
         kind,
@@ -374,7 +394,9 @@ impl Case {
     /// The step that an attempt is handed.
     fn step(&self) -> Result<f64, u32> {
         match self.kind {
-            Kind::AttemptTo => endpoint_step(self.record.progress.time, self.x, self.y),
+            Kind::AttemptTo | Kind::AttemptToInPlace => {
+                endpoint_step(self.record.progress.time, self.x, self.y)
+            }
             _ => Ok(self.x),
         }
     }
@@ -392,7 +414,7 @@ impl Case {
                 .or(when(2, !self.x.is_finite()))
                 .or(when(3, self.file.hybrid));
         }
-        let takes_file = matches!(self.kind, Kind::Attempt | Kind::AttemptTo | Kind::Supply);
+        let takes_file = self.kind.attempts() || self.kind.supplies();
         let first = when(1, !fits(&self.record, &self.memory))
             .or(when(12, takes_file && self.file.broken))
             .or(when(3, takes_file && self.file.hybrid))
@@ -401,11 +423,13 @@ impl Case {
         let values = self.values.len();
         first.or_else(|| match self.kind {
             Kind::New => None,
-            Kind::Attempt | Kind::AttemptTo => when(18, open).or_else(|| match self.step() {
-                Err(number) => Some(number),
-                Ok(step) => when(14, pending).or_else(|| checked_time(progress.time, step)),
-            }),
-            Kind::Supply => {
+            Kind::Attempt | Kind::AttemptTo | Kind::AttemptInPlace | Kind::AttemptToInPlace => {
+                when(18, open).or_else(|| match self.step() {
+                    Err(number) => Some(number),
+                    Ok(step) => when(14, pending).or_else(|| checked_time(progress.time, step)),
+                })
+            }
+            Kind::Supply | Kind::SupplyInPlace => {
                 let wanted = if progress.request == 3 { n * n } else { n };
                 let rows = self.memory.pivots.iter().all(|p| *p < n);
                 when(17, !open)
@@ -445,6 +469,9 @@ impl Case {
             Kind::Attempt => calls::attempt(record, file, x, modes, lent),
             Kind::AttemptTo => calls::attempt_to(record, file, x, y, modes, lent),
             Kind::Supply => calls::supply(record, file, values, lent),
+            Kind::AttemptInPlace => calls::attempt_in_place(record, file, x, modes, lent),
+            Kind::AttemptToInPlace => calls::attempt_to_in_place(record, file, x, y, modes, lent),
+            Kind::SupplyInPlace => calls::supply_in_place(record, file, values, lent),
             Kind::Fail => calls::fail(record, lent),
             Kind::Accept => calls::accept(record, lent),
             Kind::Reject => calls::reject(record, lent),
@@ -597,8 +624,8 @@ fn judged(
             lent.pivots.fill(0);
             Ok(Told::Done)
         }
-        Kind::Attempt | Kind::AttemptTo | Kind::Supply => {
-            if case.kind != Kind::Supply {
+        _ => {
+            if case.kind.attempts() {
                 let end = like.progress.time + case.step().expect("it was not refused");
                 like.progress.step = end - like.progress.time;
                 like.progress.end = end;
@@ -637,7 +664,7 @@ fn judged(
             answer
         }
     };
-    if matches!(case.kind, Kind::Attempt | Kind::AttemptTo | Kind::Supply) {
+    if case.kind.attempts() || case.kind.supplies() {
         let number = answer.err().map_or(0, Failure::number);
         is([0, 2, 4, 5, 6].contains(&number), "no such refusal here")?;
         like.progress.request = record.progress.request;
@@ -664,6 +691,21 @@ const CLASSES: &[(Kind, &[u32], &[&str])] = &[
     ),
     (
         Kind::Supply,
+        &[1, 3, 12, 13, 17],
+        &["asked", "shown", "ended 2", "ended 4", "ended 6"],
+    ),
+    (
+        Kind::AttemptInPlace,
+        &[1, 2, 3, 5, 12, 14, 18],
+        &["asked", "shown", "ended 2", "ended 6"],
+    ),
+    (
+        Kind::AttemptToInPlace,
+        &[1, 2, 3, 4, 5, 12, 14, 18],
+        &["asked", "shown", "ended 2", "ended 6"],
+    ),
+    (
+        Kind::SupplyInPlace,
         &[1, 3, 12, 13, 17],
         &["asked", "shown", "ended 2", "ended 4", "ended 6"],
     ),

@@ -6,7 +6,8 @@ mod ffi;
 
 use ffi::{AdaptiveController, AssessAnswer, ControllerConfig, ControllerState, Settings, Settled};
 use ffi::{Answer, Bounds, ProbeTimes, SameAnswer, TimeDifferencePolicy as Policy};
-use ffi::{Fixed, MakingAnswer, Memo, Progress, RosenbrockStepper, StepStatistics, StepperAnswer};
+use ffi::{CallAnswer, StepperAnswer};
+use ffi::{Fixed, MakingAnswer, Memo, Progress, RosenbrockStepper, StepStatistics};
 use ffi::{ReadingAnswer, StatisticsAnswer};
 use std::mem::{align_of, offset_of, size_of};
 use wiqhano as _; // links the archive
@@ -133,6 +134,10 @@ fn sizes_and_offsets_of_the_stepper() {
     assert_eq!(offset_of!(StepperAnswer, stepper), 0);
     assert_eq!(offset_of!(StepperAnswer, kind), 192);
     assert_eq!(offset_of!(StepperAnswer, number), 196);
+
+    assert_eq!((size_of::<CallAnswer>(), align_of::<CallAnswer>()), (8, 4));
+    assert_eq!(offset_of!(CallAnswer, kind), 0);
+    assert_eq!(offset_of!(CallAnswer, number), 4);
 
     assert_eq!(size_of::<MakingAnswer>(), 200);
     assert_eq!(offset_of!(MakingAnswer, stepper), 0);
@@ -497,5 +502,81 @@ fn a_record_is_changed_where_it_stands() {
         };
         assert_eq!((number, state[0]), (by_value.number, left));
         assert_eq!(text(lent), text(by_value.stepper));
+    }
+}
+
+/// A call by value and in place, on a record with 1 component and 1 stage and on the same memory: the
+/// answer, the record and the memory that are left.
+macro_rules! both {
+    ($by_value:ident, $in_place:ident, $record:expr, $($argument:expr),*) => {{
+        let file = wiqhano::tableau::Coefficients::pond().file();
+        let (mut work, mut pivots) = ([7.0; 12], [0_usize]);
+        let mut place = $record;
+        let (mut its_work, mut its_pivots) = (work, pivots);
+        let state = [5.0];
+        let (by_value, in_place) = unsafe {
+            (
+                ffi::$by_value(
+                    $record, file.as_ptr(), file.len(), $($argument,)* state.as_ptr(), 1,
+                    work.as_mut_ptr(), 12, pivots.as_mut_ptr(), 1,
+                ),
+                ffi::$in_place(
+                    &mut place, file.as_ptr(), file.len(), $($argument,)* state.as_ptr(), 1,
+                    its_work.as_mut_ptr(), 12, its_pivots.as_mut_ptr(), 1,
+                ),
+            )
+        };
+        assert_eq!((in_place.kind, in_place.number), (by_value.kind, by_value.number));
+        assert_eq!(text(place), text(by_value.stepper));
+        assert_eq!((its_work, its_pivots), (work, pivots));
+        (in_place.kind, in_place.number)
+    }};
+}
+
+#[test]
+fn each_field_of_a_call_in_place_goes_to_its_place() {
+    let values = [0.25];
+    for request in 0..10 {
+        let lent = record(1, 1, request);
+        let (open, pending) = (request > 1, request == 1);
+        for (jacobian, partial) in [(true, false), (false, true)] {
+            let told = both!(
+                wiqhano_stepper_attempt,
+                wiqhano_stepper_attempt_in_place,
+                lent,
+                0.5,
+                jacobian,
+                partial
+            );
+            let expected = match request {
+                9 => (0, 1),
+                _ if open => (0, 18),
+                _ if pending => (0, 14),
+                _ => (1, 0),
+            };
+            assert_eq!(told, expected, "{request}");
+            let told = both!(
+                wiqhano_stepper_attempt_to,
+                wiqhano_stepper_attempt_to_in_place,
+                lent,
+                2.0,
+                0.5,
+                jacobian,
+                partial
+            );
+            assert_eq!(told, expected, "{request}");
+        }
+        let told = both!(
+            wiqhano_stepper_supply,
+            wiqhano_stepper_supply_in_place,
+            lent,
+            values.as_ptr(),
+            1
+        );
+        match request {
+            9 => assert_eq!(told, (0, 1)),
+            _ if open => assert_ne!(told, (0, 17), "{request}"),
+            _ => assert_eq!(told, (0, 17), "{request}"),
+        }
     }
 }

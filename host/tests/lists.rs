@@ -1,5 +1,5 @@
 //! Whole lists of the stepper's calls beside the original (WIQHANO_ORACLE names the oracle's
-//! program), accept and reject by value or in place. After each call every reader is read: the
+//! program), attempt, attempt_to, supply, accept and reject by value or in place. After each call every reader is read: the
 //! answers that are compared are made of what they tell, and they are held to a second reading of
 //! the record. WIQHANO_SEED sets the seed, WIQHANO_COUNT the answers compared.
 mod oracle;
@@ -87,6 +87,7 @@ fn the_original() {
     let mut random = Random::new(seed);
     let (mut compared, mut differing, mut left_out) = (0, 0, 0);
     let mut classes: BTreeMap<String, usize> = BTreeMap::new();
+    let mut forms: BTreeMap<String, usize> = BTreeMap::new();
     // by parts, so that not all lines are kept at once
     while compared < count {
         let calls = written(&mut random, (count - compared).min(10_000));
@@ -94,6 +95,9 @@ fn the_original() {
         assert_eq!(answers.len(), calls.len(), "the oracle's answers");
         for (at, (call, answer)) in calls.iter().zip(&answers).enumerate() {
             *classes.entry(call.class.clone()).or_insert(0) += 1;
+            if let Some(form) = lists::form(&call.line) {
+                *forms.entry(form).or_insert(0) += 1;
+            }
             // the original cannot be called there
             let expected = match answer.as_str() {
                 "bad an attempt is open" => "err 18 AttemptOpen",
@@ -123,6 +127,9 @@ fn the_original() {
     println!("left out, as the original cannot be called there: {left_out}");
     println!("compared with the original {compared} differing {differing}");
     assert_eq!(differing, 0);
+    println!("{forms:?}");
+    assert_eq!(forms.len(), 10);
+    assert!(forms.values().all(|met| *met >= count / 200), "{forms:?}");
     // each kind of answer is met, and there is no other
     let mut rare = Vec::new();
     for class in lists::classes() {

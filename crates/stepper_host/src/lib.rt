@@ -7,7 +7,6 @@ ghost use Rattle.rosenbrock.specs.Readers as query;
 ghost use Rattle.rosenbrock.specs.Stepper.{read, stepped};
 ghost use Rattle.rosenbrock.specs.Stepper as call;
 ghost use Rattle.rosenbrock.specs.Contracts.{systemOf, makingOf};
-ghost use Rattle.in_place.specs.Landing.{landed};
 ghost use Rattle.stepper_host.specs.Handed.{ofOutcome, stepHanded, asNumbers, blankStepper, makingHanded, makingAsNumbers};
 ghost use Rattle.stepper_host.specs.Readings.{numberAsked, ofTold, handsOut, refusalOf, countersOf, statisticsHanded, copyHanded, copyAsNumbers};
 use attempts::Memo;
@@ -294,30 +293,6 @@ pub extern "C" fn wiqhano_stepper_reset(
     ensures { λ r. ⌜ stepHanded r (lending (now (state .exit)) (now (work .exit)) (now (pivots .exit))) ≡ asNumbers (stepped (call.reset time (now (values .entry))) (systemOf stepper (now (state .entry)) (now (work .entry)) (now (pivots .entry)))) ⌝ }
 {
     step_answer(stepper.reset(time, values, state, work, pivots))
-}
-
-#[no_mangle]
-pub extern "C" fn wiqhano_stepper_accept_in_place(
-    stepper: &mut RosenbrockStepper,
-    state: &mut [f64],
-    work: &[f64],
-    pivots: &[usize],
-) -> u32
-    ensures { λ r. ⌜ landed (now (stepper .exit)) r (now (state .exit)) (now (work .entry)) (now (pivots .entry)) ≡ stepped (call.accept call.in-place) (systemOf (now (stepper .entry)) (now (state .entry)) (now (work .entry)) (now (pivots .entry))) ⌝ }
-{
-    in_place::accept_in_place(stepper, state, work, pivots)
-}
-
-#[no_mangle]
-pub extern "C" fn wiqhano_stepper_reject_in_place(
-    stepper: &mut RosenbrockStepper,
-    state: &[f64],
-    work: &[f64],
-    pivots: &[usize],
-) -> u32
-    ensures { λ r. ⌜ landed (now (stepper .exit)) r (now (state .entry)) (now (work .entry)) (now (pivots .entry)) ≡ stepped (call.reject call.in-place) (systemOf (now (stepper .entry)) (now (state .entry)) (now (work .entry)) (now (pivots .entry))) ⌝ }
-{
-    in_place::reject_in_place(stepper, state, work, pivots)
 }
 
 // ---- the readers

@@ -16,7 +16,10 @@ pub struct Steppers {
     stepper: Option<Stepper>,
 }
 
-/// accept or reject, in one of its two forms.
+// a call in one of its two forms
+type Attempt = fn(&mut Record, &[u8], f64, Modes, Lent<'_>) -> calls::Answer;
+type AttemptTo = fn(&mut Record, &[u8], f64, f64, Modes, Lent<'_>) -> calls::Answer;
+type Supply = fn(&mut Record, &[u8], &[f64], Lent<'_>) -> calls::Answer;
 type Decide = fn(&mut Record, Lent<'_>) -> calls::Answer;
 
 /// A stepper with the file that it was made with.
@@ -86,12 +89,8 @@ impl Steppers {
         Ok(stepper.told(answer))
     }
 
-    /// With the word `in_place` on the record where it stands, else by value.
     fn decide(&mut self, args: &Args<'_>, by_value: Decide, in_place: Decide) -> Answer {
-        let decide = match args.token(1) {
-            Ok("in_place") => in_place,
-            _ => by_value,
-        };
+        let decide = form(args, 1, by_value, in_place);
         self.unit(|s| decide(&mut s.record, s.memory.lend()))
     }
 
@@ -105,22 +104,26 @@ impl Steppers {
 
     fn attempt(&mut self, args: &Args<'_>) -> Answer {
         let (step, modes) = (args.double(1)?, modes(args, 2)?);
-        self.unit(|s| calls::attempt(&mut s.record, &s.file, step, modes, s.memory.lend()))
+        let attempt = form(args, 4, calls::attempt as Attempt, calls::attempt_in_place);
+        self.unit(|s| attempt(&mut s.record, &s.file, step, modes, s.memory.lend()))
     }
 
     fn attempt_to(&mut self, args: &Args<'_>) -> Answer {
         let (endpoint, proposal) = (args.double(1)?, args.double(2)?);
         let modes = modes(args, 3)?;
+        let (by_value, in_place) = (calls::attempt_to as AttemptTo, calls::attempt_to_in_place);
+        let attempt_to = form(args, 5, by_value, in_place);
         self.unit(|s| {
             let (record, lent) = (&mut s.record, s.memory.lend());
-            calls::attempt_to(record, &s.file, endpoint, proposal, modes, lent)
+            attempt_to(record, &s.file, endpoint, proposal, modes, lent)
         })
     }
 
     fn give(&mut self, args: &Args<'_>) -> Answer {
         let values = args.vector(1)?;
+        let supply = form(args, 2, calls::supply as Supply, calls::supply_in_place);
         let s = self.stepper()?;
-        let answer = calls::supply(&mut s.record, &s.file, &values, s.memory.lend());
+        let answer = supply(&mut s.record, &s.file, &values, s.memory.lend());
         // in the original's words
         match (answer, reading::request(&s.record, &s.memory)) {
             (Err(Failure::Dimension), Ok(request)) if request.wanted() != values.len() => {
@@ -244,6 +247,14 @@ impl Stepper {
             text += &format!(" {name}={values}");
         }
         format!("{text} pivots={}", numbers(&self.memory.pivots))
+    }
+}
+
+/// With the word `in_place` there, on the record where it stands; else by value.
+fn form<T>(args: &Args<'_>, i: usize, by_value: T, in_place: T) -> T {
+    match args.token(i) {
+        Ok("in_place") => in_place,
+        _ => by_value,
     }
 }
 

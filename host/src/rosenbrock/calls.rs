@@ -1,7 +1,7 @@
 //! The library's calls, one function each, on a record and the memory that is lent with it. Any
 //! record and any lengths may be handed over: what does not fit is refused.
 use crate::Failure;
-use crate::ffi::{self, StepperAnswer};
+use crate::ffi::{self, CallAnswer, StepperAnswer};
 
 pub use crate::ffi::{
     Bounds, Fixed, Memo, Progress, RosenbrockStepper as Record, StepStatistics,
@@ -102,6 +102,14 @@ pub fn needed_work(n: usize, s: usize) -> usize {
 #[inline]
 fn told(record: &mut Record, answer: StepperAnswer) -> Answer {
     *record = answer.stepper;
+    told_in_place(CallAnswer {
+        kind: answer.kind,
+        number: answer.number,
+    })
+}
+
+#[inline]
+fn told_in_place(answer: CallAnswer) -> Answer {
     match answer.kind {
         0 => Err(Failure::told(answer.number)),
         1 => Ok(Told::Asked),
@@ -256,9 +264,89 @@ pub fn reject(record: &mut Record, lent: Lent<'_>) -> Answer {
     told(record, answer)
 }
 
+/// attempt, on the record where it stands.
+#[inline]
+pub fn attempt_in_place(
+    record: &mut Record,
+    file: &[u8],
+    step: f64,
+    modes: Modes,
+    lent: Lent<'_>,
+) -> Answer {
+    // SAFETY: the record is lent for the call; the slices' own pointers and lengths; here and below
+    let answer = unsafe {
+        ffi::wiqhano_stepper_attempt_in_place(
+            record,
+            file.as_ptr(),
+            file.len(),
+            step,
+            modes.host_jacobian,
+            modes.host_time_partial,
+            lent.state.as_ptr(),
+            lent.state.len(),
+            lent.work.as_mut_ptr(),
+            lent.work.len(),
+            lent.pivots.as_mut_ptr(),
+            lent.pivots.len(),
+        )
+    };
+    told_in_place(answer)
+}
+
+/// attempt_to, on the record where it stands.
+#[inline]
+pub fn attempt_to_in_place(
+    record: &mut Record,
+    file: &[u8],
+    endpoint: f64,
+    proposal: f64,
+    modes: Modes,
+    lent: Lent<'_>,
+) -> Answer {
+    let answer = unsafe {
+        ffi::wiqhano_stepper_attempt_to_in_place(
+            record,
+            file.as_ptr(),
+            file.len(),
+            endpoint,
+            proposal,
+            modes.host_jacobian,
+            modes.host_time_partial,
+            lent.state.as_ptr(),
+            lent.state.len(),
+            lent.work.as_mut_ptr(),
+            lent.work.len(),
+            lent.pivots.as_mut_ptr(),
+            lent.pivots.len(),
+        )
+    };
+    told_in_place(answer)
+}
+
+/// supply, on the record where it stands.
+#[inline]
+pub fn supply_in_place(record: &mut Record, file: &[u8], values: &[f64], lent: Lent<'_>) -> Answer {
+    let answer = unsafe {
+        ffi::wiqhano_stepper_supply_in_place(
+            record,
+            file.as_ptr(),
+            file.len(),
+            values.as_ptr(),
+            values.len(),
+            lent.state.as_ptr(),
+            lent.state.len(),
+            lent.work.as_mut_ptr(),
+            lent.work.len(),
+            lent.pivots.as_mut_ptr(),
+            lent.pivots.len(),
+        )
+    };
+    told_in_place(answer)
+}
+
 /// accept, on the record where it stands.
+#[inline]
 pub fn accept_in_place(record: &mut Record, lent: Lent<'_>) -> Answer {
-    // SAFETY: the record is lent for the call; the slices' own pointers and lengths
     let number = unsafe {
         ffi::wiqhano_stepper_accept_in_place(
             record,
@@ -274,8 +362,8 @@ pub fn accept_in_place(record: &mut Record, lent: Lent<'_>) -> Answer {
 }
 
 /// reject, on the record where it stands.
+#[inline]
 pub fn reject_in_place(record: &mut Record, lent: Lent<'_>) -> Answer {
-    // SAFETY: as for accept_in_place
     let number = unsafe {
         ffi::wiqhano_stepper_reject_in_place(
             record,

@@ -1,4 +1,4 @@
--- `stepper_host::wiqhano_stepper_reject_in_place` meets its contract: a walk of its code by hand. The record and the slices are passed on to `in_place::reject_in_place`, of which only the contract is known. Assumes nothing.
+-- `in_place_host::wiqhano_stepper_reject_in_place` meets its contract: a walk of its code by hand. The record and the slices are passed on to `in_place::reject_in_place`, of which only the contract is known. Assumes nothing.
 use mathlib.Core.Path.{_≡_, refl}
 use Prim.Native.Nat.{ℕ}
 use mathlib.Core.List.{[], _∷_, List}
@@ -43,10 +43,10 @@ use Rattle.in_place.proofs.reject_in_place as coded
 use Rattle.in_place.proofs.reject_in_place.Symbol as coded-def
 use Rattle.in_place.proofs.reject_in_place.Symbol.{name as #in-place·reject-in-place}
 use Rattle.in_place.proofs.reject_in_place.Met as coded-thm
-use Rattle.stepper_host.proofs.wiqhano_stepper_reject_in_place.Key.{name as #stepper-host·wiqhano-stepper-reject-in-place}
-use Rattle.stepper_host.proofs.wiqhano_stepper_reject_in_place as place
-use Rattle.stepper_host.proofs.wiqhano_stepper_reject_in_place.Statement as stated
-use Rattle.stepper_host.proofs.wiqhano_stepper_reject_in_place.Code as code
+use Rattle.in_place_host.proofs.wiqhano_stepper_reject_in_place.Key.{name as #in-place-host·wiqhano-stepper-reject-in-place}
+use Rattle.in_place_host.proofs.wiqhano_stepper_reject_in_place as place
+use Rattle.in_place_host.proofs.wiqhano_stepper_reject_in_place.Statement as stated
+use Rattle.in_place_host.proofs.wiqhano_stepper_reject_in_place.Code as code
 
 abbrev stayed : Stays (place.ended .signature .params) (place.ended .kept)
 stayed = (gave-ref (0 ∷ []) tt (plain (λ _. T.the-row)), (stay-none-slice (1 ∷ []) tt (plain (λ _. f64)) yes, (stay-none-slice (2 ∷ []) tt (plain (λ _. f64)) yes, (stay-none-slice (3 ∷ []) tt (plain (λ _. usize)) yes, tt))))
@@ -174,6 +174,6 @@ pub wiqhano-stepper-reject-in-place-spec : {M : Type 1} → stated.statement M
 unfolding code.routine tablesOf
 wiqhano-stepper-reject-in-place-spec 𝓤 H 𝓜 𝓖 𝓡 =
     entered 𝓤 H (tripleOf 𝓤 H (𝓖 .A) place.signature (place.spec 𝓤 H (𝓖 .A) (𝓜 .mem) (𝓡 .run)))
-    (tables 𝓤 H 𝓜 𝓡 code.env .C) (tables 𝓤 H 𝓜 𝓡 code.env .Λ) #stepper-host·wiqhano-stepper-reject-in-place code.function (code.unfolded 𝓤 H 𝓜 𝓡)
+    (tables 𝓤 H 𝓜 𝓡 code.env .C) (tables 𝓤 H 𝓜 𝓡 code.env .Λ) #in-place-host·wiqhano-stepper-reject-in-place code.function (code.unfolded 𝓤 H 𝓜 𝓡)
     (meets 𝓤 H (𝓖 .A) (givenOf 𝓤 H 𝓜 𝓖) (𝓜 .mem) (𝓡 .run) (tablesOf 𝓤 H 𝓜 (tables 𝓤 H 𝓜 𝓡 code.env))
     (cited 𝓤 H (Coded 𝓤 H (𝓖 .A) (𝓜 .mem) (𝓡 .run)) 𝓜 𝓡 code.env #in-place·reject-in-place coded-def.routine code.calls-in-place·reject-in-place (coded-thm.met 𝓤 H 𝓜 𝓖 𝓡)))

@@ -1,0 +1,223 @@
+// The calls on a stepper record that is lent by pointer, for a host in another language, under C's
+// calling convention: the record is copied out, the call is made by value, and the record is stored
+// back. No logic of its own.
+ghost use mathlib.Core.Path.{_≡_};
+ghost use Rattle.rosenbrock.specs.Stepper.{stepped};
+ghost use Rattle.rosenbrock.specs.Stepper as call;
+ghost use Rattle.rosenbrock.specs.Contracts.{systemOf};
+ghost use Rattle.in_place.specs.Landing.{landed};
+ghost use Rattle.in_place_host.specs.Handed.{ofAnswer, handed, asNumbers};
+use rosenbrock::Answer;
+use rosenbrock::RosenbrockStepper;
+
+// kind: 0 refused, with the refusal's number; 1 asked, 2 shown, 3 done, with the number 0.
+#[repr(C)]
+pub struct CallAnswer {
+    pub kind: u32,
+    pub number: u32,
+}
+
+// The record after a call, with the answer.
+pub struct Stepped {
+    pub stepper: RosenbrockStepper,
+    pub answer: CallAnswer,
+}
+
+fn call_answer(answer: Answer) -> CallAnswer
+    ensures { λ r. ⌜ r ≡ ofAnswer answer ⌝ }
+{
+    match answer {
+        Answer::Asked => CallAnswer { kind: 1, number: 0 },
+        Answer::Shown => CallAnswer { kind: 2, number: 0 },
+        Answer::Done => CallAnswer { kind: 3, number: 0 },
+        Answer::Refused(number) => CallAnswer { kind: 0, number },
+    }
+}
+
+// ---- by value, with the answer as numbers
+
+fn attempted(
+    stepper: RosenbrockStepper,
+    file: &[u8],
+    step: f64,
+    host_jacobian: bool,
+    host_time_partial: bool,
+    state: &[f64],
+    work: &mut [f64],
+    pivots: &mut [usize],
+) -> Stepped
+    ensures { λ r. ⌜ handed (r .answer) (systemOf (r .stepper) (now (state .entry)) (now (work .exit)) (now (pivots .exit)))
+        ≡ asNumbers (stepped (call.attempt (now (file .entry)) step «host_jacobian» «host_time_partial») (systemOf stepper (now (state .entry)) (now (work .entry)) (now (pivots .entry)))) ⌝ }
+{
+    let outcome = stepper.attempt(
+        file,
+        step,
+        host_jacobian,
+        host_time_partial,
+        state,
+        work,
+        pivots,
+    );
+    let after = outcome.stepper;
+    let told = outcome.answer;
+    let answer = call_answer(told);
+    Stepped {
+        stepper: after,
+        answer,
+    }
+}
+
+fn attempted_to(
+    stepper: RosenbrockStepper,
+    file: &[u8],
+    endpoint: f64,
+    proposal: f64,
+    host_jacobian: bool,
+    host_time_partial: bool,
+    state: &[f64],
+    work: &mut [f64],
+    pivots: &mut [usize],
+) -> Stepped
+    ensures { λ r. ⌜ handed (r .answer) (systemOf (r .stepper) (now (state .entry)) (now (work .exit)) (now (pivots .exit)))
+        ≡ asNumbers (stepped (call.attempt-to (now (file .entry)) endpoint proposal «host_jacobian» «host_time_partial») (systemOf stepper (now (state .entry)) (now (work .entry)) (now (pivots .entry)))) ⌝ }
+{
+    let outcome = stepper.attempt_to(
+        file,
+        endpoint,
+        proposal,
+        host_jacobian,
+        host_time_partial,
+        state,
+        work,
+        pivots,
+    );
+    let after = outcome.stepper;
+    let told = outcome.answer;
+    let answer = call_answer(told);
+    Stepped {
+        stepper: after,
+        answer,
+    }
+}
+
+fn supplied(
+    stepper: RosenbrockStepper,
+    file: &[u8],
+    values: &[f64],
+    state: &[f64],
+    work: &mut [f64],
+    pivots: &mut [usize],
+) -> Stepped
+    ensures { λ r. ⌜ handed (r .answer) (systemOf (r .stepper) (now (state .entry)) (now (work .exit)) (now (pivots .exit)))
+        ≡ asNumbers (stepped (call.supply (now (file .entry)) (now (values .entry))) (systemOf stepper (now (state .entry)) (now (work .entry)) (now (pivots .entry)))) ⌝ }
+{
+    let outcome = stepper.supply(file, values, state, work, pivots);
+    let after = outcome.stepper;
+    let told = outcome.answer;
+    let answer = call_answer(told);
+    Stepped {
+        stepper: after,
+        answer,
+    }
+}
+
+// ---- on the lent record
+
+#[no_mangle]
+pub extern "C" fn wiqhano_stepper_attempt_in_place(
+    stepper: &mut RosenbrockStepper,
+    file: &[u8],
+    step: f64,
+    host_jacobian: bool,
+    host_time_partial: bool,
+    state: &[f64],
+    work: &mut [f64],
+    pivots: &mut [usize],
+) -> CallAnswer
+    ensures { λ r. ⌜ handed r (systemOf (now (stepper .exit)) (now (state .entry)) (now (work .exit)) (now (pivots .exit)))
+        ≡ asNumbers (stepped (call.attempt (now (file .entry)) step «host_jacobian» «host_time_partial») (systemOf (now (stepper .entry)) (now (state .entry)) (now (work .entry)) (now (pivots .entry)))) ⌝ }
+{
+    let after = attempted(
+        *stepper,
+        file,
+        step,
+        host_jacobian,
+        host_time_partial,
+        state,
+        work,
+        pivots,
+    );
+    *stepper = after.stepper;
+    after.answer
+}
+
+#[no_mangle]
+pub extern "C" fn wiqhano_stepper_attempt_to_in_place(
+    stepper: &mut RosenbrockStepper,
+    file: &[u8],
+    endpoint: f64,
+    proposal: f64,
+    host_jacobian: bool,
+    host_time_partial: bool,
+    state: &[f64],
+    work: &mut [f64],
+    pivots: &mut [usize],
+) -> CallAnswer
+    ensures { λ r. ⌜ handed r (systemOf (now (stepper .exit)) (now (state .entry)) (now (work .exit)) (now (pivots .exit)))
+        ≡ asNumbers (stepped (call.attempt-to (now (file .entry)) endpoint proposal «host_jacobian» «host_time_partial») (systemOf (now (stepper .entry)) (now (state .entry)) (now (work .entry)) (now (pivots .entry)))) ⌝ }
+{
+    let after = attempted_to(
+        *stepper,
+        file,
+        endpoint,
+        proposal,
+        host_jacobian,
+        host_time_partial,
+        state,
+        work,
+        pivots,
+    );
+    *stepper = after.stepper;
+    after.answer
+}
+
+#[no_mangle]
+pub extern "C" fn wiqhano_stepper_supply_in_place(
+    stepper: &mut RosenbrockStepper,
+    file: &[u8],
+    values: &[f64],
+    state: &[f64],
+    work: &mut [f64],
+    pivots: &mut [usize],
+) -> CallAnswer
+    ensures { λ r. ⌜ handed r (systemOf (now (stepper .exit)) (now (state .entry)) (now (work .exit)) (now (pivots .exit)))
+        ≡ asNumbers (stepped (call.supply (now (file .entry)) (now (values .entry))) (systemOf (now (stepper .entry)) (now (state .entry)) (now (work .entry)) (now (pivots .entry)))) ⌝ }
+{
+    let after = supplied(*stepper, file, values, state, work, pivots);
+    *stepper = after.stepper;
+    after.answer
+}
+
+#[no_mangle]
+pub extern "C" fn wiqhano_stepper_accept_in_place(
+    stepper: &mut RosenbrockStepper,
+    state: &mut [f64],
+    work: &[f64],
+    pivots: &[usize],
+) -> u32
+    ensures { λ r. ⌜ landed (now (stepper .exit)) r (now (state .exit)) (now (work .entry)) (now (pivots .entry)) ≡ stepped (call.accept call.in-place) (systemOf (now (stepper .entry)) (now (state .entry)) (now (work .entry)) (now (pivots .entry))) ⌝ }
+{
+    in_place::accept_in_place(stepper, state, work, pivots)
+}
+
+#[no_mangle]
+pub extern "C" fn wiqhano_stepper_reject_in_place(
+    stepper: &mut RosenbrockStepper,
+    state: &[f64],
+    work: &[f64],
+    pivots: &[usize],
+) -> u32
+    ensures { λ r. ⌜ landed (now (stepper .exit)) r (now (state .entry)) (now (work .entry)) (now (pivots .entry)) ≡ stepped (call.reject call.in-place) (systemOf (now (stepper .entry)) (now (state .entry)) (now (work .entry)) (now (pivots .entry))) ⌝ }
+{
+    in_place::reject_in_place(stepper, state, work, pivots)
+}
