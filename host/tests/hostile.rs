@@ -337,8 +337,8 @@ fn case(r: &mut Random) -> Case {
         memory,
         file,
     };
-    if fits && !case.file.broken && r.chance(5) {
-        case.make_singular();
+    if fits && !case.file.broken && r.chance(8) {
+        case.stop_at_factors(r.pick(&[1.0, f64::NAN]));
     }
     case
 }
@@ -376,8 +376,9 @@ fn endpoint_step(time: f64, endpoint: f64, proposal: f64) -> Result<f64, u32> {
 }
 
 impl Case {
-    /// The matrix is 0: the Jacobian is that of the identity, step and gamma are 1.
-    fn make_singular(&mut self) {
+    /// The matrix is 0, or not finite: the Jacobian has a 1 or a NaN along its diagonal and else
+    /// zeros, step and gamma are 1.
+    fn stop_at_factors(&mut self, diagonal: f64) {
         let n = self.record.fixed.n;
         let progress = &mut self.record.progress;
         (progress.time, progress.step) = (0.0, 1.0);
@@ -387,7 +388,8 @@ impl Case {
         self.file.bytes[48..56].copy_from_slice(&1_f64.to_le_bytes());
         if let Some(jacobian) = self.memory.work.get_mut(8 * n..8 * n + n * n) {
             jacobian.fill(0.0);
-            jacobian.iter_mut().step_by(n + 1).for_each(|x| *x = 1.0);
+            let diagonals = jacobian.iter_mut().step_by(n + 1);
+            diagonals.for_each(|x| *x = diagonal);
         }
     }
 
