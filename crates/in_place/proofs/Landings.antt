@@ -18,7 +18,8 @@ use Rattle.refusals.specs.Tests.{decisionTests}
 use Rattle.rosenbrock.specs.Calls.{Out, refusal, guarded, accepted, acceptOf, rejected, rejectOf}
 use Rattle.rosenbrock.specs.Stepper.{by-value, in-place, accept, reject, called, System, needed, trimmed, Next, result, stepped}
 use Rattle.rosenbrock.specs.Contracts.{answerBy, nextOf}
-use Rattle.in_place.specs.Landing.{numberOf, landed}
+use Rattle.in_place.specs.Numbers.{numberOf}
+use Rattle.in_place.specs.Landing.{landed}
 
 abbrev told : ℕ → Answers.Answer
 told k = cond (eqb k 0) done (refused k)

@@ -5,18 +5,9 @@ use mathlib.Core.List.{List}
 use lib.Dec.{eqb}
 use lib.Ieee.{Float}
 use Rattle.rosenbrock.specs.declared.RosenbrockStepper.{RosenbrockStepper}
-use Rattle.rosenbrock.specs.declared.Answer.{Answer}
-use Rattle.rosenbrock.specs.declared.Answer.the-variants.{Asked, Shown, Done, Refused}
 use Rattle.refusals.specs.Answers.{refused, done}
 use Rattle.rosenbrock.specs.Stepper.{Next}
 use Rattle.rosenbrock.specs.Contracts.{systemOf}
-
--- neither asks or shows
-unfoldable pub numberOf : Answer → ℕ
-numberOf Asked = 0
-numberOf Shown = 0
-numberOf Done = 0
-numberOf (Refused k) = k
 
 -- the record, the number and the lent memory, as the definitions have them
 unfoldable pub landed : RosenbrockStepper → ℕ → List Float → List Float → List ℕ → Next

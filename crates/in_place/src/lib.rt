@@ -2,7 +2,8 @@
 ghost use mathlib.Core.Path.{_≡_};
 ghost use Rattle.rosenbrock.specs.Stepper.{in-place, accept, reject, stepped};
 ghost use Rattle.rosenbrock.specs.Contracts.{systemOf};
-ghost use Rattle.in_place.specs.Landing.{numberOf, landed};
+ghost use Rattle.in_place.specs.Numbers.{numberOf};
+ghost use Rattle.in_place.specs.Landing.{landed};
 use rosenbrock::Answer;
 use rosenbrock::RosenbrockStepper;
 

@@ -9,12 +9,13 @@ use Rattle.rosenbrock.specs.declared.Answer.the-variants.{Asked, Shown, Done, R
 use Rattle.rosenbrock.specs.declared.Outcome.{Outcome}
 use Rattle.rosenbrock.specs.Stepper.{Next}
 use Rattle.rosenbrock.specs.Contracts.{answerBy, nextOf, systemOf}
+use Rattle.in_place.specs.Numbers.{kindOf, numberOf, kindIn, numberIn}
 use Rattle.in_place_host.specs.declared.CallAnswer.{CallAnswer}
-use Rattle.in_place_host.specs.Handed.{ofAnswer, handed, inNumbers, asNumbers}
+use Rattle.in_place_host.specs.Handed.{ofAnswer, handed, asNumbers}
 
 module _ (state work : List Float) (pivots : List ℕ) where
   by-answer : (y : RosenbrockStepper) (a : code.Answer) → handed (ofAnswer a) (systemOf y state work pivots) ≡ asNumbers (nextOf (record { stepper = y; answer = a }) state work pivots)
-  unfolding ofAnswer asNumbers nextOf answerBy inNumbers
+  unfolding ofAnswer asNumbers nextOf answerBy kindOf numberOf kindIn numberIn
   by-answer y (Refused k) = refl
   by-answer y Asked = refl
   by-answer y Shown = refl

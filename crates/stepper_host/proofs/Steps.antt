@@ -12,12 +12,13 @@ use Rattle.rosenbrock.specs.declared.Making.the-variants as making
 use Rattle.refusals.specs.Answers.{lending}
 use Rattle.rosenbrock.specs.Stepper.{Next}
 use Rattle.rosenbrock.specs.Contracts.{answerBy, nextOf, AfterMaking, madeBy}
+use Rattle.in_place.specs.Numbers.{kindOf, numberOf, kindIn, numberIn}
 use Rattle.stepper_host.specs.declared.StepperAnswer.{StepperAnswer}
-use Rattle.stepper_host.specs.Handed.{ofAnswer, ofOutcome, stepHanded, inNumbers, asNumbers, blankStepper, makingHanded, ofMade, makingAsNumbers}
+use Rattle.stepper_host.specs.Handed.{ofAnswer, ofOutcome, stepHanded, asNumbers, blankStepper, makingHanded, ofMade, makingAsNumbers}
 
 module _ (state work : List Float) (pivots : List ℕ) where
   by-answer : (y : RosenbrockStepper) (a : code.Answer) → stepHanded (ofAnswer y a) (lending state work pivots) ≡ asNumbers (nextOf (record { stepper = y; answer = a }) state work pivots)
-  unfolding ofAnswer asNumbers nextOf answerBy inNumbers
+  unfolding ofAnswer asNumbers nextOf answerBy kindOf numberOf kindIn numberIn
   by-answer y (Refused k) = refl
   by-answer y Asked = refl
   by-answer y Shown = refl

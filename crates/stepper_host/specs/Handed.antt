@@ -3,23 +3,19 @@ use mathlib.Core.Bool.{false}
 use Rattle.float.specs.Operators.{𝟎}
 use Rattle.rosenbrock.specs.declared.RosenbrockStepper.{RosenbrockStepper}
 use Rattle.rosenbrock.specs.declared.Answer as code
-use Rattle.rosenbrock.specs.declared.Answer.the-variants.{Asked, Shown, Done, Refused}
 use Rattle.rosenbrock.specs.declared.Outcome.{Outcome}
-use Rattle.refusals.specs.Answers.{Lent, Answer, refused, asked, shown, told, done}
+use Rattle.refusals.specs.Answers.{Lent}
 use Rattle.rosenbrock.specs.Calls.{fresh}
 use Rattle.rosenbrock.specs.Stepper.{Next, Made, not-made, made, noStatistics}
 use Rattle.rosenbrock.specs.Contracts.{AfterMaking}
+use Rattle.in_place.specs.Numbers.{kindOf, numberOf, kindIn, numberIn}
 use Rattle.stepper_host.specs.declared.StepperAnswer.{StepperAnswer}
 use Rattle.stepper_host.specs.declared.MakingAnswer.{MakingAnswer}
 
 -- ---- a call
 
--- 0 refused, 1 asked, 2 shown, 3 done
 unfoldable pub ofAnswer : RosenbrockStepper → code.Answer → StepperAnswer
-ofAnswer y (Refused k) = record { stepper = y; kind = 0; number = k }
-ofAnswer y Asked = record { stepper = y; kind = 1; number = 0 }
-ofAnswer y Shown = record { stepper = y; kind = 2; number = 0 }
-ofAnswer y Done = record { stepper = y; kind = 3; number = 0 }
+ofAnswer y a = record { stepper = y; kind = kindOf a; number = numberOf a }
 
 unfoldable pub ofOutcome : Outcome → StepperAnswer
 unfolding ofAnswer
@@ -33,16 +29,9 @@ pub record StepHanded : Type 0 where
 abbrev pub stepHanded : StepperAnswer → Lent → StepHanded
 stepHanded r m = record { answer = r; lent = m }
 
--- the same of the definitions' answer; a reader's is 4
-unfoldable pub inNumbers : RosenbrockStepper → Answer → StepperAnswer
-inNumbers y (refused k) = record { stepper = y; kind = 0; number = k }
-inNumbers y (asked r) = record { stepper = y; kind = 1; number = 0 }
-inNumbers y (shown v) = record { stepper = y; kind = 2; number = 0 }
-inNumbers y done = record { stepper = y; kind = 3; number = 0 }
-inNumbers y (told r) = record { stepper = y; kind = 4; number = 0 }
-
+-- the same of the definitions' answer
 unfoldable pub asNumbers : Next → StepHanded
-asNumbers r = stepHanded (inNumbers (r .system .stepper) (r .answer)) (r .system .lent)
+asNumbers r = stepHanded (record { stepper = r .system .stepper; kind = kindIn (r .answer); number = numberIn (r .answer) }) (r .system .lent)
 
 -- ---- a making
 

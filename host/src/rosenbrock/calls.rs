@@ -119,22 +119,28 @@ fn told_in_place(answer: CallAnswer) -> Answer {
     }
 }
 
-pub fn new(file: &[u8], policy: Policy, time: f64, lent: Lent<'_>) -> Result<Record, Failure> {
-    // SAFETY: the slices' own pointers and lengths; here and below
-    let answer = unsafe {
-        ffi::wiqhano_stepper_new(
-            file.as_ptr(),
-            file.len(),
-            policy,
-            time,
-            lent.state.as_ptr(),
-            lent.state.len(),
-            lent.work.as_mut_ptr(),
-            lent.work.len(),
-            lent.pivots.as_mut_ptr(),
-            lent.pivots.len(),
-        )
+/// The export, with what it takes before the memory. Where it only reads what is lent, the pointer is
+/// the same.
+macro_rules! call {
+    ($export:ident, $lent:ident $(, $argument:expr)*) => {
+        // SAFETY: the slices' own pointers and lengths, and a record, if one is lent, for the call
+        unsafe {
+            ffi::$export(
+                $($argument,)*
+                $lent.state.as_mut_ptr(),
+                $lent.state.len(),
+                $lent.work.as_mut_ptr(),
+                $lent.work.len(),
+                $lent.pivots.as_mut_ptr(),
+                $lent.pivots.len(),
+            )
+        }
     };
+}
+
+pub fn new(file: &[u8], policy: Policy, time: f64, lent: Lent<'_>) -> Result<Record, Failure> {
+    let (bytes, len) = (file.as_ptr(), file.len());
+    let answer = call!(wiqhano_stepper_new, lent, bytes, len, policy, time);
     Failure::unless_0(answer.number).map(|()| answer.stepper)
 }
 
@@ -146,22 +152,18 @@ pub fn attempt(
     modes: Modes,
     lent: Lent<'_>,
 ) -> Answer {
-    let answer = unsafe {
-        ffi::wiqhano_stepper_attempt(
-            *record,
-            file.as_ptr(),
-            file.len(),
-            step,
-            modes.host_jacobian,
-            modes.host_time_partial,
-            lent.state.as_ptr(),
-            lent.state.len(),
-            lent.work.as_mut_ptr(),
-            lent.work.len(),
-            lent.pivots.as_mut_ptr(),
-            lent.pivots.len(),
-        )
-    };
+    let (bytes, len) = (file.as_ptr(), file.len());
+    let (jacobian, partial) = (modes.host_jacobian, modes.host_time_partial);
+    let answer = call!(
+        wiqhano_stepper_attempt,
+        lent,
+        *record,
+        bytes,
+        len,
+        step,
+        jacobian,
+        partial
+    );
     told(record, answer)
 }
 
@@ -174,94 +176,53 @@ pub fn attempt_to(
     modes: Modes,
     lent: Lent<'_>,
 ) -> Answer {
-    let answer = unsafe {
-        ffi::wiqhano_stepper_attempt_to(
-            *record,
-            file.as_ptr(),
-            file.len(),
-            endpoint,
-            proposal,
-            modes.host_jacobian,
-            modes.host_time_partial,
-            lent.state.as_ptr(),
-            lent.state.len(),
-            lent.work.as_mut_ptr(),
-            lent.work.len(),
-            lent.pivots.as_mut_ptr(),
-            lent.pivots.len(),
-        )
-    };
+    let (bytes, len) = (file.as_ptr(), file.len());
+    let (jacobian, partial) = (modes.host_jacobian, modes.host_time_partial);
+    let answer = call!(
+        wiqhano_stepper_attempt_to,
+        lent,
+        *record,
+        bytes,
+        len,
+        endpoint,
+        proposal,
+        jacobian,
+        partial
+    );
     told(record, answer)
 }
 
 /// Supplies what is asked for.
 #[inline]
 pub fn supply(record: &mut Record, file: &[u8], values: &[f64], lent: Lent<'_>) -> Answer {
-    let answer = unsafe {
-        ffi::wiqhano_stepper_supply(
-            *record,
-            file.as_ptr(),
-            file.len(),
-            values.as_ptr(),
-            values.len(),
-            lent.state.as_ptr(),
-            lent.state.len(),
-            lent.work.as_mut_ptr(),
-            lent.work.len(),
-            lent.pivots.as_mut_ptr(),
-            lent.pivots.len(),
-        )
-    };
+    let (bytes, len) = (file.as_ptr(), file.len());
+    let (given, count) = (values.as_ptr(), values.len());
+    let answer = call!(
+        wiqhano_stepper_supply,
+        lent,
+        *record,
+        bytes,
+        len,
+        given,
+        count
+    );
     told(record, answer)
 }
 
 /// Reports that the host failed to work out what is asked for.
 #[inline]
 pub fn fail(record: &mut Record, lent: Lent<'_>) -> Answer {
-    let answer = unsafe {
-        ffi::wiqhano_stepper_fail(
-            *record,
-            lent.state.as_ptr(),
-            lent.state.len(),
-            lent.work.as_ptr(),
-            lent.work.len(),
-            lent.pivots.as_ptr(),
-            lent.pivots.len(),
-        )
-    };
-    told(record, answer)
+    told(record, call!(wiqhano_stepper_fail, lent, *record))
 }
 
 #[inline]
 pub fn accept(record: &mut Record, lent: Lent<'_>) -> Answer {
-    let answer = unsafe {
-        ffi::wiqhano_stepper_accept(
-            *record,
-            lent.state.as_mut_ptr(),
-            lent.state.len(),
-            lent.work.as_ptr(),
-            lent.work.len(),
-            lent.pivots.as_ptr(),
-            lent.pivots.len(),
-        )
-    };
-    told(record, answer)
+    told(record, call!(wiqhano_stepper_accept, lent, *record))
 }
 
 #[inline]
 pub fn reject(record: &mut Record, lent: Lent<'_>) -> Answer {
-    let answer = unsafe {
-        ffi::wiqhano_stepper_reject(
-            *record,
-            lent.state.as_ptr(),
-            lent.state.len(),
-            lent.work.as_ptr(),
-            lent.work.len(),
-            lent.pivots.as_ptr(),
-            lent.pivots.len(),
-        )
-    };
-    told(record, answer)
+    told(record, call!(wiqhano_stepper_reject, lent, *record))
 }
 
 /// attempt, on the record where it stands.
@@ -273,24 +234,18 @@ pub fn attempt_in_place(
     modes: Modes,
     lent: Lent<'_>,
 ) -> Answer {
-    // SAFETY: the record is lent for the call; the slices' own pointers and lengths; here and below
-    let answer = unsafe {
-        ffi::wiqhano_stepper_attempt_in_place(
-            record,
-            file.as_ptr(),
-            file.len(),
-            step,
-            modes.host_jacobian,
-            modes.host_time_partial,
-            lent.state.as_ptr(),
-            lent.state.len(),
-            lent.work.as_mut_ptr(),
-            lent.work.len(),
-            lent.pivots.as_mut_ptr(),
-            lent.pivots.len(),
-        )
-    };
-    told_in_place(answer)
+    let (bytes, len) = (file.as_ptr(), file.len());
+    let (jacobian, partial) = (modes.host_jacobian, modes.host_time_partial);
+    told_in_place(call!(
+        wiqhano_stepper_attempt_in_place,
+        lent,
+        record,
+        bytes,
+        len,
+        step,
+        jacobian,
+        partial
+    ))
 }
 
 /// attempt_to, on the record where it stands.
@@ -303,115 +258,68 @@ pub fn attempt_to_in_place(
     modes: Modes,
     lent: Lent<'_>,
 ) -> Answer {
-    let answer = unsafe {
-        ffi::wiqhano_stepper_attempt_to_in_place(
-            record,
-            file.as_ptr(),
-            file.len(),
-            endpoint,
-            proposal,
-            modes.host_jacobian,
-            modes.host_time_partial,
-            lent.state.as_ptr(),
-            lent.state.len(),
-            lent.work.as_mut_ptr(),
-            lent.work.len(),
-            lent.pivots.as_mut_ptr(),
-            lent.pivots.len(),
-        )
-    };
-    told_in_place(answer)
+    let (bytes, len) = (file.as_ptr(), file.len());
+    let (jacobian, partial) = (modes.host_jacobian, modes.host_time_partial);
+    told_in_place(call!(
+        wiqhano_stepper_attempt_to_in_place,
+        lent,
+        record,
+        bytes,
+        len,
+        endpoint,
+        proposal,
+        jacobian,
+        partial
+    ))
 }
 
 /// supply, on the record where it stands.
 #[inline]
 pub fn supply_in_place(record: &mut Record, file: &[u8], values: &[f64], lent: Lent<'_>) -> Answer {
-    let answer = unsafe {
-        ffi::wiqhano_stepper_supply_in_place(
-            record,
-            file.as_ptr(),
-            file.len(),
-            values.as_ptr(),
-            values.len(),
-            lent.state.as_ptr(),
-            lent.state.len(),
-            lent.work.as_mut_ptr(),
-            lent.work.len(),
-            lent.pivots.as_mut_ptr(),
-            lent.pivots.len(),
-        )
-    };
-    told_in_place(answer)
+    let (bytes, len) = (file.as_ptr(), file.len());
+    let (given, count) = (values.as_ptr(), values.len());
+    told_in_place(call!(
+        wiqhano_stepper_supply_in_place,
+        lent,
+        record,
+        bytes,
+        len,
+        given,
+        count
+    ))
 }
 
 /// accept, on the record where it stands.
 #[inline]
 pub fn accept_in_place(record: &mut Record, lent: Lent<'_>) -> Answer {
-    let number = unsafe {
-        ffi::wiqhano_stepper_accept_in_place(
-            record,
-            lent.state.as_mut_ptr(),
-            lent.state.len(),
-            lent.work.as_ptr(),
-            lent.work.len(),
-            lent.pivots.as_ptr(),
-            lent.pivots.len(),
-        )
-    };
+    let number = call!(wiqhano_stepper_accept_in_place, lent, record);
     Failure::unless_0(number).map(|()| Told::Done)
 }
 
 /// reject, on the record where it stands.
 #[inline]
 pub fn reject_in_place(record: &mut Record, lent: Lent<'_>) -> Answer {
-    let number = unsafe {
-        ffi::wiqhano_stepper_reject_in_place(
-            record,
-            lent.state.as_ptr(),
-            lent.state.len(),
-            lent.work.as_ptr(),
-            lent.work.len(),
-            lent.pivots.as_ptr(),
-            lent.pivots.len(),
-        )
-    };
+    let number = call!(wiqhano_stepper_reject_in_place, lent, record);
     Failure::unless_0(number).map(|()| Told::Done)
 }
 
 #[inline]
 pub fn inject_derivative(record: &mut Record, derivative: &[f64], lent: Lent<'_>) -> Answer {
-    let answer = unsafe {
-        ffi::wiqhano_stepper_inject_derivative(
-            *record,
-            derivative.as_ptr(),
-            derivative.len(),
-            lent.state.as_ptr(),
-            lent.state.len(),
-            lent.work.as_mut_ptr(),
-            lent.work.len(),
-            lent.pivots.as_ptr(),
-            lent.pivots.len(),
-        )
-    };
+    let (given, count) = (derivative.as_ptr(), derivative.len());
+    let answer = call!(
+        wiqhano_stepper_inject_derivative,
+        lent,
+        *record,
+        given,
+        count
+    );
     told(record, answer)
 }
 
 /// `values`: the new accepted state.
 #[inline]
 pub fn reset(record: &mut Record, time: f64, values: &[f64], lent: Lent<'_>) -> Answer {
-    let answer = unsafe {
-        ffi::wiqhano_stepper_reset(
-            *record,
-            time,
-            values.as_ptr(),
-            values.len(),
-            lent.state.as_mut_ptr(),
-            lent.state.len(),
-            lent.work.as_mut_ptr(),
-            lent.work.len(),
-            lent.pivots.as_mut_ptr(),
-            lent.pivots.len(),
-        )
-    };
+    let (given, count) = (values.as_ptr(), values.len());
+    let answer = call!(wiqhano_stepper_reset, lent, *record, time, given, count);
     told(record, answer)
 }

@@ -1,7 +1,7 @@
 -- `in_place::number_of` meets its contract: case by case. Assumes nothing.
 use borrow.Author.Needs.{needs}
 use mathlib.Core.Path.{sym, ap}
-use Rattle.in_place.specs.Landing.{numberOf}
+use Rattle.in_place.specs.Numbers.{numberOf}
 use Rattle.in_place.proofs.number_of.Statement.{statement}
 use Rattle.in_place.proofs.number_of.Tie as tie
 

@@ -1,6 +1,7 @@
 -- `in_place_host::call_answer` meets its contract: case by case. Assumes nothing.
 use borrow.Author.Needs.{needs}
 use mathlib.Core.Path.{sym, ap}
+use Rattle.in_place.specs.Numbers.{kindOf, numberOf}
 use Rattle.in_place_host.specs.Handed.{ofAnswer}
 use Rattle.in_place_host.proofs.call_answer.Statement.{statement}
 use Rattle.in_place_host.proofs.call_answer.Tie as tie
@@ -18,19 +19,19 @@ enum-known-answer : tie.Need-enum-known-answer
 enum-known-answer c = search needs
 
 returns : tie.Need-returns
-unfolding ofAnswer
+unfolding ofAnswer kindOf numberOf
 returns c = sym (ap ofAnswer (c .enum-told .given .1))
 
 returns-2 : tie.Need-returns-2
-unfolding ofAnswer
+unfolding ofAnswer kindOf numberOf
 returns-2 c = sym (ap ofAnswer (c .enum-told2 .given .1))
 
 returns-3 : tie.Need-returns-3
-unfolding ofAnswer
+unfolding ofAnswer kindOf numberOf
 returns-3 c = sym (ap ofAnswer (c .enum-told3 .given .1))
 
 returns-4 : tie.Need-returns-4
-unfolding ofAnswer
+unfolding ofAnswer kindOf numberOf
 returns-4 c = sym (ap ofAnswer (c .before .answer .given .1))
 
 pub call-answer-spec : {M : Type 1} → statement M
