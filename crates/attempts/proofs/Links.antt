@@ -5,7 +5,7 @@ use native.Mathlib.Omega.{arith}
 use native.Mathlib.Numerals.{add-one}
 use native.Mathlib.Nat.{suc-mul, mul-le-mul-right}
 use mathlib.Core.Path.{_≡_, sym, ap, _∙_, subst}
-use mathlib.Core.Bool.{Bool, true, false, not}
+use mathlib.Core.Bool.{Bool, true, false, not, _&&_}
 use mathlib.Core.List.{List}
 use lib.ListN.{length, getD}
 use lib.Dec.{ltb, eqb}
@@ -18,6 +18,7 @@ use Rattle.vector.specs.Parts.{part, puts}
 use Rattle.vector.proofs.Lists.{length-table, every-at}
 use Rattle.vector.proofs.Parts.{puts-all}
 use Rattle.stepping.specs.Refusals.{singular}
+use Rattle.tableau.specs.Tableau.{present}
 use Rattle.linear.specs.declared.Factorization.{Factorization}
 use Rattle.linear.specs.declared.Factorization.the-variants.{Factored, Refused}
 use Rattle.linear.specs.Elimination.{scale, threshold, unusable, pivotOf, stepsDone}
@@ -25,10 +26,11 @@ use Rattle.linear.specs.Calls.{numberOf, eliminationOf, rawOf}
 use Rattle.linear.proofs.Outcomes.{pivots-below, raw-succeeds}
 use Rattle.stages.specs.Layout.{Stage, PivotRows, factorsAt}
 use Rattle.stages.specs.Memory.{component, eliminationIn}
-use Rattle.attempts.specs.declared.Setting.{Setting}
 use Rattle.attempts.specs.declared.Marks.{Marks}
-use Rattle.attempts.specs.Attempt.{Scratch, Stopped, scratch, refuse, choose, provided}
-use Rattle.attempts.specs.Calls.{Sizes}
+use Rattle.attempts.specs.declared.StageOutcome.the-variants.{Shows}
+use Rattle.attempts.specs.declared.FactorOutcome.{FactorOutcome}
+use Rattle.attempts.specs.Attempt.{Given, Scratch, Stopped, scratch, refuse, choose, provided, show}
+use Rattle.attempts.specs.Calls.{Fit, stageStop, factorStop}
 
 -- ---- one test
 
@@ -65,6 +67,10 @@ zero-as e h = sym (ap (λ (z : Float). eq z 𝟎) e) ∙ h
 pub via : (f : Scratch → Stopped) {m m' : Marks} {w w' : List Float} {p p' : List ℕ} {s : Stopped} → m ≡ m' → w ≡ w' → p ≡ p'
     → s ≡ f (scratch m w p) → s ≡ f (scratch m' w' p')
 via f a b c e = cc
+
+-- the same, where the call is made on what they left
+pub left : (f : Scratch → Stopped) (m : Marks) {w w' : List Float} (p : List ℕ) → w ≡ w' → f (scratch m w p) ≡ f (scratch m w' p)
+left f m p l = ap (λ (z : List Float). f (scratch m z p)) l
 
 -- the same, for the next stage or column
 pub via-next : (f : ℕ → Scratch → Stopped) (i : ℕ) (m : Marks) {w w' : List Float} (p : List ℕ) {s : Stopped} → w ≡ w'
@@ -112,10 +118,19 @@ module _ (n : ℕ) (p : List ℕ) {u u' : List Float} {r : Factorization} (l : u
 pub pivots-as : (n : ℕ) (p : List ℕ) {u u' : List Float} {q : List ℕ} → u ≡ u' → q ≡ eliminationIn n p u .pivots → q ≡ eliminationIn n p u' .pivots
 pivots-as n p l e = e ∙ ap (λ (z : List Float). eliminationIn n p z .pivots) l
 
+-- ---- what the calls that do the arithmetic hand back
+
+pub shown : (g : Given) (x : Scratch) {b : Bool} → b ≡ (eqb (g .tableau .counts .estimator) 0 && present (g .tableau .counts)) → stageStop (Shows b) x ≡ show g x
+unfolding show stageStop
+shown g x e = rw e
+
+pub told : {r r' : FactorOutcome} (x : Scratch) {s : Stopped} → r ≡ r' → factorStop r x ≡ s → factorStop r' x ≡ s
+told x e h = sym (ap (λ (z : FactorOutcome). factorStop z x) e) ∙ h
+
 -- ---- sizes
 
 pub stage-of : (n s i : ℕ) → i < s → Stage n s i
 stage-of n s i h = record { below = h; inside = omega (arith, suc-mul i n, mul-le-mul-right n h) }
 
-pub sizes-as : {g : Setting} {state work work' : ℕ} → work' ≡ work → Sizes g state work → Sizes g state work'
+pub sizes-as : {n s state work work' : ℕ} → work' ≡ work → Fit n s state work → Fit n s state work'
 sizes-as e h = rw e h

@@ -13,8 +13,9 @@ ghost use Rattle.tableau.specs.Tableau.{Tableau, present, cOf};
 ghost use Rattle.tableau.specs.File.{tableauOf};
 ghost use Rattle.stages.specs.Layout.{Room, Stage, PivotRows};
 ghost use Rattle.stages.specs.Memory.{component};
-ghost use Rattle.attempts.specs.Attempt.{given, scratch, stopped, refuse, ask, askRhs, show, finish, askStage, openStage, nextStage, solveStage, firstStage, factor};
-ghost use Rattle.attempts.specs.Calls.{Sizes, Stops};
+ghost use Rattle.attempts.specs.Marks.{countingFactorization, countingSolve, counting};
+ghost use Rattle.attempts.specs.Attempt.{Scratch, given, scratch, stopped, onMarks, refuse, ask, askRhs, show, finish, askStage, openStage, nextStage, solveStage, firstStage, factor};
+ghost use Rattle.attempts.specs.Calls.{Fit, Sizes, Stops, settingAt, stageStop, factorStop};
 use linear::Factorization;
 use time_difference::TimeDifferencePolicy;
 
@@ -86,6 +87,22 @@ pub struct Stop {
     pub ending: Ending,
 }
 
+// How the stages stop: the derivative of a stage is asked for at a time, a refusal closes the attempt,
+// or the step is shown, with its error or without. Few numbers, and no marks: it is what the calls
+// that do the arithmetic hand back.
+pub enum StageOutcome {
+    Asks(usize, f64),
+    Ends(u32),
+    Shows(bool),
+}
+
+// The same from the matrix on, by what was counted: nothing, a factorization, or a solve as well.
+pub enum FactorOutcome {
+    Unfactored(StageOutcome),
+    Factored(StageOutcome),
+    Solved(StageOutcome),
+}
+
 // ---- stopping
 
 // A refusal that closes the attempt.
@@ -150,74 +167,117 @@ pub fn show(file: &[u8], mut marks: Marks) -> Stop
     }
 }
 
-fn finish(g: Setting, file: &[u8], work: &[f64], marks: Marks) -> Stop
-    requires { ⌜ Room (g .n) (g .s) (length (now work)) ⌝ }
-    ensures { λ r. ⌜ ((state : List Float) (p : List ℕ) → stopped r (now (work .entry)) p
-        ≡ finish (given g (tableauOf (now (file .entry))) state) (scratch marks (now (work .entry)) p)) ⌝ }
+// The stages stop: the request is noted and counted, or the refusal closes the attempt, or the step is
+// shown.
+fn stage_stop(mut marks: Marks, outcome: StageOutcome) -> Stop
+    ensures { λ r. ⌜ Stops r marks (stageStop outcome) ⌝ }
 {
-    let n = g.n;
+    match outcome {
+        StageOutcome::Asks(i, time) => ask_rhs(marks, Ask::Stage(i), time),
+        StageOutcome::Ends(number) => refuse(marks, number),
+        StageOutcome::Shows(error) => {
+            marks.memo.error_shown = error;
+            Stop {
+                marks,
+                ending: Ending::Shows,
+            }
+        }
+    }
+}
+
+fn finish(file: &[u8], work: &[f64], n: usize) -> StageOutcome
+    requires { ⌜ (n ≤ 32) × (2 * n ≤ length (now work)) ⌝ }
+    ensures { λ r. ⌜ ((s : ℕ) (time step : Float) (state : List Float) (m : Marks) (p : List ℕ) → stageStop r (scratch m (now (work .entry)) p)
+        ≡ finish (given (settingAt n s time step) (tableauOf (now (file .entry))) state) (scratch m (now (work .entry)) p)) ⌝ }
+{
     if !finite_at(work, 0, n) {
-        return refuse(marks, stepping::NON_FINITE);
+        return StageOutcome::Ends(stepping::NON_FINITE);
     }
     if !finite_at(work, n, n) {
-        return refuse(marks, stepping::NON_FINITE);
+        return StageOutcome::Ends(stepping::NON_FINITE);
     }
-    show(file, marks)
+    StageOutcome::Shows(shows_error(file))
 }
 
 // The derivative is asked for at the time and state of stage i, whose c is given.
-fn ask_stage(g: Setting, c: f64, i: usize, marks: Marks) -> Stop
-    ensures { λ r. ⌜ ((t : Tableau) (state : List Float) → c ≡ cOf t i → Stops r marks (askStage (given g t state) i)) ⌝ }
+fn ask_stage(time: f64, step: f64, c: f64, i: usize) -> StageOutcome
+    ensures { λ r. ⌜ ((n s : ℕ) (t : Tableau) (state : List Float) (x : Scratch) → c ≡ cOf t i → stageStop r x ≡ askStage (given (settingAt n s time step) t state) i x) ⌝ }
 {
-    let time = g.time + c * g.step;
-    if !float::is_finite(time) {
-        return refuse(marks, stepping::NON_FINITE);
+    let stage_time = time + c * step;
+    if !float::is_finite(stage_time) {
+        return StageOutcome::Ends(stepping::NON_FINITE);
     }
-    ask_rhs(marks, Ask::Stage(i), time)
+    StageOutcome::Asks(i, stage_time)
 }
 
 // Stage i: its state, then its derivative.
 fn open_stage(
-    g: Setting,
     file: &[u8],
     state: &[f64],
     work: &mut [f64],
-    marks: Marks,
+    n: usize,
+    s: usize,
+    time: f64,
+    step: f64,
     i: usize,
-) -> Stop
-    requires { ⌜ Sizes g (length (now state)) (length (now work)) × Stage (g .n) (g .s) i ⌝ }
-    ensures { λ r. ⌜ ((p : List ℕ) → stopped r (now (work .exit)) p
-        ≡ openStage (given g (tableauOf (now (file .entry))) (now (state .entry))) i (scratch marks (now (work .entry)) p)) ⌝ }
+) -> StageOutcome
+    requires { ⌜ Fit n s (length (now state)) (length (now work)) × Stage n s i ⌝ }
+    ensures { λ r. ⌜ ((m : Marks) (p : List ℕ) → stageStop r (scratch m (now (work .exit)) p)
+        ≡ openStage (given (settingAt n s time step) (tableauOf (now (file .entry))) (now (state .entry))) i (scratch m (now (work .entry)) p)) ⌝ }
 {
-    let n = g.n;
-    let s = g.s;
     stages::stage_state(work, file, state, n, s, i);
     if !finite_at(work, 2 * n, n) {
-        return refuse(marks, stepping::NON_FINITE);
+        return StageOutcome::Ends(stepping::NON_FINITE);
     }
-    ask_stage(g, tableau::c(file, i), i, marks)
+    ask_stage(time, step, tableau::c(file, i), i)
 }
 
 // Stage i, not the first, or the end.
 fn next_stage(
-    g: Setting,
     file: &[u8],
     state: &[f64],
     work: &mut [f64],
-    marks: Marks,
+    n: usize,
+    s: usize,
+    time: f64,
+    step: f64,
     i: usize,
-) -> Stop
-    requires { ⌜ Sizes g (length (now state)) (length (now work)) × (i ≤ g .s) ⌝ }
-    ensures { λ r. ⌜ ((p : List ℕ) → stopped r (now (work .exit)) p
-        ≡ nextStage (given g (tableauOf (now (file .entry))) (now (state .entry))) i (scratch marks (now (work .entry)) p)) ⌝ }
+) -> StageOutcome
+    requires { ⌜ Fit n s (length (now state)) (length (now work)) × (i ≤ s) ⌝ }
+    ensures { λ r. ⌜ ((m : Marks) (p : List ℕ) → stageStop r (scratch m (now (work .exit)) p)
+        ≡ nextStage (given (settingAt n s time step) (tableauOf (now (file .entry))) (now (state .entry))) i (scratch m (now (work .entry)) p)) ⌝ }
 {
-    if i == g.s {
-        return finish(g, file, work, marks);
+    if i == s {
+        return finish(file, work, n);
     }
-    open_stage(g, file, state, work, marks, i)
+    open_stage(file, state, work, n, s, time, step, i)
 }
 
 // Stage i's derivative is there: solve, add up, and go on.
+fn stage_outcome(
+    file: &[u8],
+    state: &[f64],
+    work: &mut [f64],
+    pivots: &[usize],
+    n: usize,
+    s: usize,
+    time: f64,
+    step: f64,
+    i: usize,
+) -> StageOutcome
+    requires { ⌜ Fit n s (length (now state)) (length (now work)) × Stage n s i × PivotRows n (now pivots) ⌝ }
+    ensures { λ r. ⌜ ((m : Marks) → stageStop r (onMarks (counting countingSolve) (scratch m (now (work .exit)) (now (pivots .entry))))
+        ≡ solveStage (given (settingAt n s time step) (tableauOf (now (file .entry))) (now (state .entry))) i (scratch m (now (work .entry)) (now (pivots .entry)))) ⌝ }
+{
+    stages::stage_solved(work, file, pivots, n, s, i, step);
+    if !finite_at(work, 8 * n + 2 * (n * n) + i * n, n) {
+        return StageOutcome::Ends(stepping::NON_FINITE);
+    }
+    stages::add_stage(work, file, n, s, i);
+    next_stage(file, state, work, n, s, time, step, i + 1)
+}
+
+// The same, with what is noted and counted.
 pub fn solve_stage(
     g: Setting,
     file: &[u8],
@@ -231,15 +291,9 @@ pub fn solve_stage(
     ensures { λ r. ⌜ stopped r (now (work .exit)) (now (pivots .entry))
         ≡ solveStage (given g (tableauOf (now (file .entry))) (now (state .entry))) i (scratch marks (now (work .entry)) (now (pivots .entry))) ⌝ }
 {
-    let n = g.n;
-    let s = g.s;
-    stages::stage_solved(work, file, pivots, n, s, i, g.step);
+    let outcome = stage_outcome(file, state, work, pivots, g.n, g.s, g.time, g.step, i);
     marks.counted.linear_solves = true;
-    if !finite_at(work, 8 * n + 2 * (n * n) + i * n, n) {
-        return refuse(marks, stepping::NON_FINITE);
-    }
-    stages::add_stage(work, file, n, s, i);
-    next_stage(g, file, state, work, marks, i + 1)
+    stage_stop(marks, outcome)
 }
 
 // Copies n elements of the work to a later place.
@@ -256,33 +310,64 @@ fn copy_within(work: &mut [f64], to: usize, from: usize, n: usize)
 
 // The first stage takes the derivative at the accepted state where its c is a zero.
 fn first_stage(
-    g: Setting,
     file: &[u8],
     state: &[f64],
     work: &mut [f64],
     pivots: &[usize],
-    marks: Marks,
-) -> Stop
-    requires { ⌜ Sizes g (length (now state)) (length (now work)) × PivotRows (g .n) (now pivots) ⌝ }
-    ensures { λ r. ⌜ stopped r (now (work .exit)) (now (pivots .entry))
-        ≡ firstStage (given g (tableauOf (now (file .entry))) (now (state .entry))) (scratch marks (now (work .entry)) (now (pivots .entry))) ⌝ }
+    n: usize,
+    s: usize,
+    time: f64,
+    step: f64,
+) -> FactorOutcome
+    requires { ⌜ Fit n s (length (now state)) (length (now work)) × PivotRows n (now pivots) ⌝ }
+    ensures { λ r. ⌜ ((m : Marks) → factorStop r (scratch m (now (work .exit)) (now (pivots .entry)))
+        ≡ firstStage (given (settingAt n s time step) (tableauOf (now (file .entry))) (now (state .entry)))
+        (onMarks (counting countingFactorization) (scratch m (now (work .entry)) (now (pivots .entry))))) ⌝ }
 {
-    let n = g.n;
-    let s = g.s;
     stages::stage_state(work, file, state, n, s, 0);
     if !finite_at(work, 2 * n, n) {
-        return refuse(marks, stepping::NON_FINITE);
+        return FactorOutcome::Factored(StageOutcome::Ends(stepping::NON_FINITE));
     }
     let c = tableau::c(file, 0);
     if c == 0.0 {
         copy_within(work, 8 * n + 2 * (n * n) + s * n, 3 * n, n);
-        return solve_stage(g, file, state, work, pivots, marks, 0);
+        let outcome = stage_outcome(file, state, work, pivots, n, s, time, step, 0);
+        return FactorOutcome::Solved(outcome);
     }
-    ask_stage(g, c, 0, marks)
+    FactorOutcome::Factored(ask_stage(time, step, c, 0))
 }
 
 // ---- the matrix, its factors, then the first stage
 
+fn factor_outcome(
+    file: &[u8],
+    state: &[f64],
+    work: &mut [f64],
+    pivots: &mut [usize],
+    n: usize,
+    s: usize,
+    time: f64,
+    step: f64,
+) -> FactorOutcome
+    requires { ⌜ Fit n s (length (now state)) (length (now work)) × (length (now pivots) ≡ n) ⌝ }
+    ensures { λ r. ⌜ ((m : Marks) → factorStop r (scratch m (now (work .exit)) (now (pivots .exit)))
+        ≡ factor (given (settingAt n s time step) (tableauOf (now (file .entry))) (now (state .entry))) (scratch m (now (work .entry)) (now (pivots .entry)))) ⌝ }
+{
+    stages::system_matrix(work, file, n, s, step);
+    if !finite_at(work, 8 * n + n * n, n * n) {
+        return FactorOutcome::Unfactored(StageOutcome::Ends(stepping::NON_FINITE));
+    }
+    match stages::factorize_matrix(work, pivots, n, s) {
+        Factorization::Factored => {
+            return first_stage(file, state, work, pivots, n, s, time, step);
+        }
+        Factorization::Refused(_) => {
+            return FactorOutcome::Factored(StageOutcome::Ends(stepping::SINGULAR));
+        }
+    }
+}
+
+// The same, with what is noted and counted.
 pub fn factor(
     g: Setting,
     file: &[u8],
@@ -295,19 +380,18 @@ pub fn factor(
     ensures { λ r. ⌜ stopped r (now (work .exit)) (now (pivots .exit))
         ≡ factor (given g (tableauOf (now (file .entry))) (now (state .entry))) (scratch marks (now (work .entry)) (now (pivots .entry))) ⌝ }
 {
-    let n = g.n;
-    let s = g.s;
-    stages::system_matrix(work, file, n, s, g.step);
-    if !finite_at(work, 8 * n + n * n, n * n) {
-        return refuse(marks, stepping::NON_FINITE);
-    }
-    marks.counted.factorizations = true;
-    match stages::factorize_matrix(work, pivots, n, s) {
-        Factorization::Factored => {
-            return first_stage(g, file, state, work, pivots, marks);
+    match factor_outcome(file, state, work, pivots, g.n, g.s, g.time, g.step) {
+        FactorOutcome::Unfactored(outcome) => {
+            return stage_stop(marks, outcome);
         }
-        Factorization::Refused(_) => {
-            return refuse(marks, stepping::SINGULAR);
+        FactorOutcome::Factored(outcome) => {
+            marks.counted.factorizations = true;
+            return stage_stop(marks, outcome);
+        }
+        FactorOutcome::Solved(outcome) => {
+            marks.counted.factorizations = true;
+            marks.counted.linear_solves = true;
+            return stage_stop(marks, outcome);
         }
     }
 }
