@@ -278,7 +278,14 @@ fn settled(fixed: Fixed, progress: Progress, statistics: StepStatistics, stop: S
     let memo = marks.memo;
     let counted = marks.counted;
     let mut after = progress;
-    after.memo = memo;
+    // field by field: a copy of the whole would wait for the stores of its parts
+    after.memo.derivative_valid = memo.derivative_valid;
+    after.memo.differentiation_valid = memo.differentiation_valid;
+    after.memo.error_shown = memo.error_shown;
+    after.memo.two_probes = memo.two_probes;
+    after.memo.first_probe = memo.first_probe;
+    after.memo.second_probe = memo.second_probe;
+    after.memo.request_time = memo.request_time;
     after.request = request_after(ending);
     after.stage = stage_after(ending);
     let counters = tallied(counted, statistics);

@@ -16,7 +16,9 @@ answer-after-requires : tie.Need-answer-after-requires
 answer-after-requires c κs = tt
 
 returns : tie.Need-returns
-returns c = let a = c .before .before .before .before .before .before .before .args in settled-eq (a .fixed) (a .progress) (a .statistics) (a .stop) (c .before .before .before .request-after .ensures) (c .before .before .stage-after .ensures) (c .before .tallied .ensures) (c .answer-after .ensures)
+returns c =
+    let a = c .before .before .before .before .before .before .before .before .before .before .before .before .before .before .args in
+    settled-eq (a .fixed) (a .progress) (a .statistics) (a .stop) (c .before .before .before .request-after .ensures) (c .before .before .stage-after .ensures) (c .before .tallied .ensures) (c .answer-after .ensures)
 
 pub settled-spec : {M : Type 1} → statement M
 settled-spec =
