@@ -4,8 +4,8 @@ ghost use mathlib.Core.Path.{_≡_};
 ghost use mathlib.Core.Bool.{cond, _&&_};
 ghost use Prim.Native.Nat.{ℕ, _+_, _*_, _-_, _<_, _≤_};
 ghost use lib.Dec.{eqb, ltb};
-ghost use lib.ListN.{length, getD};
-ghost use lib.Ieee.{lt};
+ghost use lib.ListN.{length, getD, drop};
+ghost use lib.Ieee.{Float, lt};
 ghost use Rattle.float.specs.Operators.{_⊖_, _⊗_};
 ghost use Rattle.float.specs.Methods.{abs};
 ghost use Rattle.vector.specs.Lists.{el, every};
@@ -296,36 +296,55 @@ fn less_products(factors: &[f64], x: &[f64], at: usize, first: usize, last: usiz
     value
 }
 
-// Solves L y = b in place, row by row. The first unknown is b's own first element.
+// Solves L y = b in place, row by row. The first unknown is b's own first element. The unknown found
+// last is kept in a local, so that the next row does not read it back through memory.
 fn forward_substitution(factors: &[f64], x: &mut [f64], n: usize)
     requires { ⌜ (0 < n) × (n ≤ 32) × (length (now factors) ≡ n * n) × (length (now x) ≡ n) ⌝ }
     ensures { λ _. ⌜ now (x .exit) ≡ forwardSubstitution (lower n (now (factors .entry))) (el (now (x .entry))) n ⌝ }
 {
+    let mut last = x[0];
     let mut row = 1;
     while row < n {
         let at = row * n;
+        let left = row - 1;
+        let subdiagonal = at + left;
         let b = x[row];
-        let value = less_products(factors, x, at, 0, row, b);
-        x[row] = value;
+        let value = less_products(factors, x, at, 0, left, b);
+        last = value - factors[subdiagonal] * last;
+        x[row] = last;
         row += 1;
+    }
+}
+
+// Solves U x = y above row `below`, where the unknowns from that row on are found and `last` is its own.
+fn back_rows(factors: &[f64], x: &mut [f64], n: usize, mut below: usize, mut last: f64)
+    requires { ⌜ (n ≤ 32) × (length (now factors) ≡ n * n) × (length (now x) ≡ n) × (below < n) × (last ≡ el (now x) below) ⌝ }
+    ensures { λ _. ⌜ ((y : ℕ → Float) → drop below (now (x .entry)) ≡ backSubstitution n (upper n (now (factors .entry))) y (n - below)
+        → ((j : ℕ) → j < below → el (now (x .entry)) j ≡ y j) → now (x .exit) ≡ backSubstitution n (upper n (now (factors .entry))) y n) ⌝ }
+{
+    while 0 < below {
+        let row = below - 1;
+        let at = row * n;
+        let diagonal = at + row;
+        let superdiagonal = at + below;
+        let b = x[row] - factors[superdiagonal] * last;
+        let value = less_products(factors, x, at, below + 1, n, b);
+        last = value / factors[diagonal];
+        x[row] = last;
+        below = row;
     }
 }
 
 // Solves U x = y in place, from the last row up.
 fn back_substitution(factors: &[f64], x: &mut [f64], n: usize)
-    requires { ⌜ (n ≤ 32) × (length (now factors) ≡ n * n) × (length (now x) ≡ n) ⌝ }
+    requires { ⌜ (0 < n) × (n ≤ 32) × (length (now factors) ≡ n * n) × (length (now x) ≡ n) ⌝ }
     ensures { λ _. ⌜ now (x .exit) ≡ backSubstitution n (upper n (now (factors .entry))) (el (now (x .entry))) n ⌝ }
 {
-    let mut below = n;
-    while 0 < below {
-        let row = below - 1;
-        let at = row * n;
-        let diagonal = at + row;
-        let b = x[row];
-        let value = less_products(factors, x, at, below, n, b);
-        x[row] = value / factors[diagonal];
-        below = row;
-    }
+    let end = n - 1;
+    let corner = end * n + end;
+    let last = x[end] / factors[corner];
+    x[end] = last;
+    back_rows(factors, x, n, end, last);
 }
 
 // Solves a factored system in place; sizes and pivots that fit are the caller's to see to.
