@@ -4,7 +4,7 @@ use native.Mathlib.Omega.{arith}
 use mathlib.Core.Path.{_≡_, refl, sym, ap, _∙_}
 use mathlib.Core.Bool.{cond}
 use mathlib.Core.List.{List}
-use mathlib.Core.Logic.{inl, inr}
+use mathlib.Core.Logic.{_⊎_, inl, inr, ⊎-elim}
 use lib.Dec.{eqb}
 use lib.ListN.{length, set}
 use lib.Ieee.{Float, nan}
@@ -14,7 +14,7 @@ use Rattle.vector.specs.Lists.{el, table}
 use Rattle.vector.specs.Parts.{part, puts}
 use Rattle.vector.specs.Matrices.{entry}
 use Rattle.vector.proofs.Lists.{table-at, table-same}
-use Rattle.vector.proofs.Stores.{puts-left, puts-held, puts-same, puts-again, puts-join, puts-both, mid-puts}
+use Rattle.vector.proofs.Stores.{puts-left, puts-held, puts-same, puts-again, puts-join, puts-both, puts-both-join, mid-puts}
 use Rattle.vector.proofs.Matrices.{row-inside, row-next, rows-at}
 use Rattle.vector.proofs.Parts.{part-at, part-puts, part-left}
 use Rattle.tableau.specs.Tableau.{Tableau, aOf, couplingOf, dOf, gammaOf, bOf}
@@ -87,6 +87,13 @@ module _ (n s : ℕ) (t : Tableau) (i : ℕ) (h : Float) (w : List Float) where
         (λ k l. ap (λ (z : Float). z ⊗ el y k) g ∙ ap (λ (z : Float). (h ⊗ gammaOf t) ⊗ z) (sym (puts-held nan w (linearRhsAt n) (el y) n k (omega arith) l)))
         ∙ ap (λ (z : List Float). puts z (stageAt n i) (stageValue t h (component z (linearRhsAt n))) n) (sym d)
 
+-- a vector is stored at a, and c times it at b: the loop's next m stores
+pub stored-join : (w : List Float) (a b : ℕ) (f : ℕ → Float) (c : Float) (k m : ℕ) → a + (k + m) ≤ b → (y : ℕ → Float) → ((j : ℕ) → j < m → y j ≡ f (k + j))
+    → {v x : List Float} → v ≡ puts (puts w a f k) b (λ z. c ⊗ f z) k → x ≡ puts (puts v (a + k) y m) (b + k) (λ j. c ⊗ y j) m → x ≡ puts (puts w a f (k + m)) b (λ z. c ⊗ f z) (k + m)
+stored-join w a b f c k m h y g {v} {x} e r =
+    r ∙ ap (λ (z : List Float). puts (puts z (a + k) y m) (b + k) (λ j. c ⊗ y j) m) e
+    ∙ puts-both-join w a b f (λ z. c ⊗ f z) k y (λ j. c ⊗ y j) m h g (λ j l. ap (λ (z : Float). c ⊗ z) (g j l))
+
 -- multiples of the vector at s are added to those at a and b: the loop's next stores
 module _ (w : List Float) (a b s n : ℕ) (p q : Float) (ab : a + n ≤ b) (bs : b + n ≤ s) where
   abbrev first : ℕ → Float
@@ -104,20 +111,50 @@ module _ (w : List Float) (a b s n : ℕ) (p q : Float) (ab : a + n ≤ b) (bs :
       let z : component v s k ≡ component w s k = ap (λ (z : List Float). component z s k) e ∙ puts-left nan m b second k (s + k) (inr (omega arith)) ∙ puts-left nan w a first k (s + k) (inr (omega arith)) in
       rw (x, y, z, e) (puts-both w a b first second k (omega arith) refl refl)
 
+  -- its next m, from sums of what stands in v
+  pub both-join : (k m : ℕ) → k + m ≤ n → {v x : List Float} → v ≡ puts (puts w a first k) b second k
+      → x ≡ puts (puts v (a + k) (λ j. component v (a + k) j ⊕ p ⊗ component v (s + k) j) m) (b + k) (λ j. component v (b + k) j ⊕ q ⊗ component v (s + k) j) m
+      → x ≡ puts (puts w a first (k + m)) b second (k + m)
+  both-join k m l {v} {x} e r =
+      let u : List Float = puts w a first k in
+      let f : ℕ → Float = λ j. component v (a + k) j ⊕ p ⊗ component v (s + k) j in
+      let g : ℕ → Float = λ j. component v (b + k) j ⊕ q ⊗ component v (s + k) j in
+      let ahead : (c j : ℕ) → a ≤ c → (c + k + j < b) ⊎ (b ≤ c) → component v (c + k) j ≡ component w c (k + j) =
+      λ c j h o.
+      let i : c + k + j ≡ c + (k + j) = omega arith in
+      ap (λ (z : List Float). component z (c + k) j) e
+      ∙ puts-left nan u b second k (c + k + j) (⊎-elim {C = (c + k + j < b) ⊎ (b + k ≤ c + k + j)} (λ t. inl t) (λ t. inr (omega arith)) o)
+      ∙ puts-left nan w a first k (c + k + j) (inr (omega arith))
+      ∙ ap (el w) i in
+      r ∙ ap (λ (z : List Float). puts (puts z (a + k) f m) (b + k) g m) e
+      ∙ puts-both-join w a b first second k f g m (omega arith)
+      (λ j t. let y = ahead a j (omega arith) (inl (omega arith)) in let z = ahead s j (omega arith) (inr (omega arith)) in rw (y, z))
+      (λ j t. let y = ahead b j (omega arith) (inr (omega arith)) in let z = ahead s j (omega arith) (inr (omega arith)) in rw (y, z))
+
+-- sums at b read nothing of an earlier store at a
+past : (w : List Float) (a b s n : ℕ) (f : ℕ → Float) (q : Float) → a + n ≤ b → b + n ≤ s
+    → puts (puts w a f n) b (λ k. component (puts w a f n) b k ⊕ q ⊗ component (puts w a f n) s k) n ≡ puts (puts w a f n) b (λ k. component w b k ⊕ q ⊗ component w s k) n
+past w a b s n f q ab bs =
+    let m : List Float = puts w a f n in
+    puts-same m b (λ k. component m b k ⊕ q ⊗ component m s k) (λ k. component w b k ⊕ q ⊗ component w s k) n
+    (λ k l.
+    let x = puts-left nan w a f n (b + k) (inr (omega arith)) in
+    let y = puts-left nan w a f n (s + k) (inr (omega arith)) in
+    rw (x, y))
+
+-- the sums at a, then those at b
+pub sums-past : (w : List Float) (a b s n : ℕ) (f : ℕ → Float) (q : Float) → a + n ≤ b → b + n ≤ s → {v x : List Float} → v ≡ puts w a f n
+    → x ≡ puts v b (λ k. component v b k ⊕ q ⊗ component v s k) n → x ≡ puts (puts w a f n) b (λ k. component w b k ⊕ q ⊗ component w s k) n
+sums-past w a b s n f q ab bs e r = r ∙ ap (λ (z : List Float). puts z b (λ k. component z b k ⊕ q ⊗ component z s k) n) e ∙ past w a b s n f q ab bs
+
 -- both sums of a stage
 pub added-chain : (n : ℕ) (t : Tableau) (i : ℕ) (w : List Float) {b e : Float} {v : List Float} → b ≡ bOf t i → e ≡ errorWeight t i
     → v ≡ puts (puts w (candidateAt n) (λ k. component w (candidateAt n) k ⊕ b ⊗ component w (stageAt n i) k) n) (errorAt n) (λ k. component w (errorAt n) k ⊕ e ⊗ component w (stageAt n i) k) n
     → v ≡ withStageAdded n t i w
 unfolding withStageAdded withAdded
 added-chain n t i w {b} {e} {v} p q r =
-    let f : ℕ → Float = λ k. component w (candidateAt n) k ⊕ bOf t i ⊗ stageIn n w i k in
-    let m : List Float = puts w (candidateAt n) f n in
     r ∙ rw (p, q)
-    (puts-same m (errorAt n) (λ k. component w (errorAt n) k ⊕ errorWeight t i ⊗ stageIn n w i k) (λ k. component m (errorAt n) k ⊕ errorWeight t i ⊗ stageIn n m i k) n
-    (λ k l.
-    let x = puts-left nan w (candidateAt n) f n (errorAt n + k) (inr (omega arith)) in
-    let y = puts-left nan w (candidateAt n) f n (stageAt n i + k) (inr (omega arith)) in
-    rw (x, y)))
+    (sym (past w (candidateAt n) (errorAt n) (stageAt n i) n (λ k. component w (candidateAt n) k ⊕ bOf t i ⊗ stageIn n w i k) (errorWeight t i) (omega arith) (omega arith)))
 
 -- one more row of the matrix
 module _ (n : ℕ) (t : Tableau) (h : Float) (w : List Float) where

@@ -129,8 +129,28 @@ fn right_hand_side(
     add_couplings(rhs, work, file, n, s, i, step);
 }
 
-// Stores a solution, and c times it as the stage at `stage`.
-fn store_stage(work: &mut [f64], solution: &[f64], rhs: usize, stage: usize, n: usize, c: f64)
+// Stores four components of a solution from k on, and c times them in the stage.
+fn store_four(work: &mut [f64], solution: &[f64], rhs: usize, stage: usize, k: usize, c: f64)
+    requires { ⌜ (k + 4 ≤ length (now solution)) × (rhs + k + 4 ≤ length (now work)) × (stage + k + 4 ≤ length (now work)) ⌝ }
+    ensures { λ _. ⌜ now (work .exit)
+        ≡ puts (puts (now (work .entry)) (rhs + k) (λ j. el (now (solution .entry)) (k + j)) 4) (stage + k) (λ j. c ⊗ el (now (solution .entry)) (k + j)) 4 ⌝ }
+{
+    let x0 = solution[k];
+    let x1 = solution[k + 1];
+    let x2 = solution[k + 2];
+    let x3 = solution[k + 3];
+    work[rhs + k] = x0;
+    work[rhs + k + 1] = x1;
+    work[rhs + k + 2] = x2;
+    work[rhs + k + 3] = x3;
+    work[stage + k] = c * x0;
+    work[stage + k + 1] = c * x1;
+    work[stage + k + 2] = c * x2;
+    work[stage + k + 3] = c * x3;
+}
+
+// Stores a solution, and c times it as the stage at `stage`, one component at a time.
+fn store_remainder(work: &mut [f64], solution: &[f64], rhs: usize, stage: usize, n: usize, c: f64)
     requires { ⌜ (length (now solution) ≡ n) × (rhs + n ≤ stage) × (stage + n ≤ length (now work)) ⌝ }
     ensures { λ _. ⌜ now (work .exit) ≡ puts (puts (now (work .entry)) rhs (el (now (solution .entry))) n) stage (λ k. c ⊗ el (now (solution .entry)) k) n ⌝ }
 {
@@ -141,6 +161,20 @@ fn store_stage(work: &mut [f64], solution: &[f64], rhs: usize, stage: usize, n: 
         work[stage + k] = c * x;
         k += 1;
     }
+}
+
+// Stores a solution, and c times it as the stage at `stage`. Four at a time take wide loads
+// and stores.
+fn store_stage(work: &mut [f64], solution: &[f64], rhs: usize, stage: usize, n: usize, c: f64)
+    requires { ⌜ (length (now solution) ≡ n) × (rhs + n ≤ stage) × (stage + n ≤ length (now work)) ⌝ }
+    ensures { λ _. ⌜ now (work .exit) ≡ puts (puts (now (work .entry)) rhs (el (now (solution .entry))) n) stage (λ k. c ⊗ el (now (solution .entry)) k) n ⌝ }
+{
+    let mut k = 0;
+    while k + 3 < n {
+        store_four(work, solution, rhs, stage, k, c);
+        k += 4;
+    }
+    store_remainder(work, &solution[k..], rhs + k, stage + k, n - k, c);
 }
 
 // The system is solved in rhs, apart from the work that holds its factors.
@@ -192,8 +226,24 @@ fn error_weight(file: &[u8], i: usize) -> f64
     0.0
 }
 
-// Adds b times the stage at `stage` to the candidate, and e times it to the error.
-fn add_to_both(
+// Adds b times four elements at `from` to those at `to`.
+fn add_four(work: &mut [f64], to: usize, from: usize, b: f64)
+    requires { ⌜ (to + 4 ≤ length (now work)) × (from + 4 ≤ length (now work)) ⌝ }
+    ensures { λ _. ⌜ now (work .exit) ≡ puts (now (work .entry)) to (λ k. component (now (work .entry)) to k ⊕ b ⊗ component (now (work .entry)) from k) 4 ⌝ }
+{
+    let x0 = work[to] + b * work[from];
+    let x1 = work[to + 1] + b * work[from + 1];
+    let x2 = work[to + 2] + b * work[from + 2];
+    let x3 = work[to + 3] + b * work[from + 3];
+    work[to] = x0;
+    work[to + 1] = x1;
+    work[to + 2] = x2;
+    work[to + 3] = x3;
+}
+
+// Adds b times the stage at `stage` to the candidate, and e times it to the error, one component
+// at a time.
+fn add_remainder(
     work: &mut [f64],
     candidate: usize,
     error: usize,
@@ -215,6 +265,31 @@ fn add_to_both(
         work[error + k] = y;
         k += 1;
     }
+}
+
+// Adds b times the stage at `stage` to the candidate, and e times it to the error. Four at a time
+// take wide loads and stores.
+fn add_to_both(
+    work: &mut [f64],
+    candidate: usize,
+    error: usize,
+    stage: usize,
+    n: usize,
+    b: f64,
+    e: f64,
+)
+    requires { ⌜ (candidate + n ≤ error) × (error + n ≤ stage) × (stage + n ≤ length (now work)) ⌝ }
+    ensures { λ _. ⌜ now (work .exit)
+        ≡ puts (puts (now (work .entry)) candidate (λ k. component (now (work .entry)) candidate k ⊕ b ⊗ component (now (work .entry)) stage k) n)
+        error (λ k. component (now (work .entry)) error k ⊕ e ⊗ component (now (work .entry)) stage k) n ⌝ }
+{
+    let mut k = 0;
+    while k + 3 < n {
+        add_four(work, candidate + k, stage + k, b);
+        add_four(work, error + k, stage + k, e);
+        k += 4;
+    }
+    add_remainder(work, candidate + k, error + k, stage + k, n - k, b, e);
 }
 
 // Stage i goes into the candidate and the error, with b and btilde that are 0 too.

@@ -33,10 +33,16 @@ unfolding le lt eq ofBits
 tested true = refl
 tested false = refl
 
-pub four-is : (a b c d : Float) → le 𝟎 (a ⊖ a ⊕ (b ⊖ b) ⊕ (c ⊖ c ⊕ (d ⊖ d))) ≡ (finite a && finite b && (finite c && finite d))
+crossed : (p q r s : Bool) → (p && r && (q && s)) ≡ (p && q && (r && s))
+crossed true true r s = refl
+crossed true false true s = refl
+crossed true false false s = refl
+crossed false q r s = refl
+
+pub four-is : (a b c d : Float) → le 𝟎 (a ⊖ a ⊕ (c ⊖ c) ⊕ (b ⊖ b ⊕ (d ⊖ d))) ≡ (finite a && finite b && (finite c && finite d))
 four-is a b c d =
-    rw (self a, self b, self c, self d, joined (finite a) (finite b), joined (finite c) (finite d), joined (finite a && finite b) (finite c && finite d))
-    (tested (finite a && finite b && (finite c && finite d)))
+    rw (self a, self b, self c, self d, joined (finite a) (finite c), joined (finite b) (finite d), joined (finite a && finite c) (finite b && finite d))
+    (tested (finite a && finite c && (finite b && finite d)) ∙ crossed (finite a) (finite b) (finite c) (finite d))
 
 -- four turns at once
 module _ (p : ℕ → Bool) where

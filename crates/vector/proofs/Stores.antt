@@ -2,7 +2,7 @@
 use Prim.Native.Nat.{ℕ, zero, suc, _+_, _-_, _<_, _≤_}
 use native.Mathlib.Omega.{arith}
 use native.Mathlib.Numerals.{add-one}
-use native.Mathlib.Nat.{add-zero, add-suc}
+use native.Mathlib.Nat.{add-zero, zero-add, add-suc}
 use mathlib.Core.Path.{_≡_, refl, sym, ap, _∙_}
 use mathlib.Core.Bool.{cond}
 use mathlib.Core.List.{List, [], _∷_, _++_}
@@ -106,6 +106,10 @@ module _ {A : Type 0} where
       ∙ set-set (puts (puts w at f n) at g n) (at + n) (f n) (g n)
       ∙ ap (λ (v : List A). set v (at + n) (g n)) (puts-again w at f g n)
 
+  -- what has been stored, stored again
+  pub puts-kept : (w : List A) (at : ℕ) (f : ℕ → A) (n : ℕ) {v : List A} → v ≡ puts w at f n → v ≡ puts v at f n
+  puts-kept w at f n e = e ∙ sym (puts-again w at f f n) ∙ ap (λ (z : List A). puts z at f n) (sym e)
+
   -- a store right after another
   pub puts-join : (w : List A) (at : ℕ) (f : ℕ → A) (m : ℕ) (g : ℕ → A) (n : ℕ) → ((j : ℕ) → j < n → g j ≡ f (m + j)) → puts (puts w at f m) (at + m) g n ≡ puts w at f (m + n)
   unfolding puts
@@ -114,12 +118,39 @@ module _ {A : Type 0} where
       let e : at + m + n ≡ at + (m + n) = omega arith in
       rw (add-suc, puts-join w at f m g n (λ j k. h j (omega arith)), h n (omega arith), e)
 
+  -- a loop that stores from the front on: its next store, and its next n
+  pub front-more : (w : List A) (f : ℕ → A) (k : ℕ) → set (puts w 0 f k) k (f k) ≡ puts w 0 f (k + 1)
+  front-more w f k = ap (λ (i : ℕ). set (puts w 0 f k) i (f k)) (sym (zero-add k)) ∙ puts-more w 0 f k refl
+
+  pub front-join : (w : List A) (f : ℕ → A) (k n : ℕ) → puts (puts w 0 f k) k (λ j. f (k + j)) n ≡ puts w 0 f (k + n)
+  front-join w f k n = ap (λ (i : ℕ). puts (puts w 0 f k) i (λ j. f (k + j)) n) (sym (zero-add k)) ∙ puts-join w 0 f k (λ j. f (k + j)) n (λ j h. refl)
+
   -- a loop that stores in two places, the first before the second: its next stores
   pub puts-both : (w : List A) (a b : ℕ) (f g : ℕ → A) (k : ℕ) {u v : A} → a + k < b → u ≡ f k → v ≡ g k
       → set (set (puts (puts w a f k) b g k) (a + k) u) (b + k) v ≡ puts (puts w a f (k + 1)) b g (k + 1)
   puts-both w a b f g k {u} {v} h p q =
       ap (λ (x : List A). set x (b + k) v) (set-puts (puts w a f k) b g k (a + k) u (inl h) ∙ ap (λ (x : List A). puts x b g k) (puts-more w a f k p))
       ∙ puts-more (puts w a f (k + 1)) b g k q
+
+  -- stores elsewhere, before or after
+  pub puts-past : (w : List A) (a : ℕ) (f : ℕ → A) (m b : ℕ) (g : ℕ → A) (n : ℕ) → b + n ≤ a → puts (puts w a f m) b g n ≡ puts (puts w b g n) a f m
+  unfolding puts
+  puts-past w a f m b g zero h = refl
+  puts-past w a f m b g (suc n) h =
+      ap (λ (v : List A). set v (b + n) (g n)) (puts-past w a f m b g n (omega arith)) ∙ set-puts (puts w b g n) a f m (b + n) (g n) (inl (omega arith))
+
+  -- four stores side by side
+  pub four-puts : (w : List A) (at : ℕ) (f : ℕ → A) {v : A} → v ≡ f 0 → set (set (set (set w at v) (at + 1) (f 1)) (at + 2) (f 2)) (at + 3) (f 3) ≡ puts w at f 4
+  unfolding puts
+  four-puts w at f e = rw (e, add-zero)
+
+  -- a loop that stores in two places, the first before the second: its next n stores in each
+  pub puts-both-join : (w : List A) (a b : ℕ) (f g : ℕ → A) (k : ℕ) (p q : ℕ → A) (n : ℕ) → a + (k + n) ≤ b → ((j : ℕ) → j < n → p j ≡ f (k + j)) → ((j : ℕ) → j < n → q j ≡ g (k + j))
+      → puts (puts (puts (puts w a f k) b g k) (a + k) p n) (b + k) q n ≡ puts (puts w a f (k + n)) b g (k + n)
+  puts-both-join w a b f g k p q n h d e =
+      ap (λ (v : List A). puts v (b + k) q n)
+      (puts-past (puts w a f k) b g k (a + k) p n (omega arith) ∙ ap (λ (v : List A). puts v b g k) (puts-join w a f k p n d))
+      ∙ puts-join (puts w a f (k + n)) b g k q n e
 
   -- ---- a part that was lent, from a on and k long, and has come back as ys: `putMid a k xs ys`
   pub mid-before : (d : A) (a k : ℕ) (xs ys : List A) (j : ℕ) → a ≤ length xs → j < a → getD (putMid a k xs ys) j d ≡ getD xs j d

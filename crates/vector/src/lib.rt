@@ -8,11 +8,11 @@ ghost use lib.ListN.{length, replicate};
 ghost use Rattle.vector.specs.Lists.{el, allFinite};
 ghost use Rattle.vector.specs.Parts.{part, puts};
 
-// Whether all four are finite: x - x is 0 or a NaN, and so is the sum.
+// Whether all four are finite: x - x is 0 or a NaN, and so is the sum. Neighbours share wide operations.
 fn four_finite(a: f64, b: f64, c: f64, d: f64) -> bool
     ensures { λ r. ⌜ r ≡ (finite a && finite b && (finite c && finite d)) ⌝ }
 {
-    (a - a + (b - b)) + (c - c + (d - d)) >= 0.0
+    ((a - a) + (c - c)) + ((b - b) + (d - d)) >= 0.0
 }
 
 // Whether each element is finite. Four at a time take one jump.
@@ -37,12 +37,31 @@ pub fn all_finite(x: &[f64]) -> bool
     true
 }
 
-// Copies src to dst, which is as long.
+// Copies four elements from i on, each read before any is stored.
+fn copy_four(dst: &mut [f64], src: &[f64], i: usize)
+    requires { ⌜ (i + 4 ≤ length (now dst)) × (i + 4 ≤ length (now src)) ⌝ }
+    ensures { λ _. ⌜ now (dst .exit) ≡ puts (now (dst .entry)) i (λ j. el (now (src .entry)) (i + j)) 4 ⌝ }
+{
+    let a = src[i];
+    let b = src[i + 1];
+    let c = src[i + 2];
+    let d = src[i + 3];
+    dst[i] = a;
+    dst[i + 1] = b;
+    dst[i + 2] = c;
+    dst[i + 3] = d;
+}
+
+// Copies src to dst, which is as long. Four at a time take wide loads and stores.
 pub fn copy(dst: &mut [f64], src: &[f64])
     requires { ⌜ length (now dst) ≡ length (now src) ⌝ }
     ensures { λ _. ⌜ now (dst .exit) ≡ now (src .entry) ⌝ }
 {
     let mut i = 0;
+    while i + 3 < dst.len() {
+        copy_four(dst, src, i);
+        i += 4;
+    }
     while i < dst.len() {
         dst[i] = src[i];
         i += 1;

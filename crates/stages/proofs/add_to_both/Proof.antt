@@ -1,14 +1,14 @@
 -- `stages::add_to_both` meets its contract: both vectors are written side by side. Assumes nothing.
-use Prim.Native.Nat.{ℕ, _-_, _≤_}
+use Prim.Native.Nat.{ℕ, _+_, _-_, _≤_}
 use native.Mathlib.Omega.{arith}
 use mathlib.Core.Path.{_≡_, refl, ap, _∙_}
 use denote.Ref.{now}
 use borrow.Author.Needs.{needs}
-use lib.ListN.{length, length-set}
+use lib.ListN.{length}
 use Rattle.float.specs.Operators.{_⊕_, _⊗_}
 use Rattle.vector.specs.Parts.{puts}
 use Rattle.stages.specs.Memory.{component}
-use Rattle.stages.proofs.Steps.{both-more}
+use Rattle.stages.proofs.Steps.{both-join, sums-past}
 use Rattle.stages.proofs.add_to_both.Statement.{statement}
 use Rattle.stages.proofs.add_to_both.Tie as tie
 
@@ -24,50 +24,26 @@ loop-holds : tie.Need-loop-holds Inv-loop μ-loop
 unfolding puts
 loop-holds c = (search needs, search needs, refl)
 
-add-x : tie.Need-add-x Inv-loop μ-loop
-add-x c = search needs
+add-loop : tie.Need-add-loop Inv-loop μ-loop
+add-loop c = search needs
 
-mul-x : tie.Need-mul-x Inv-loop μ-loop
-mul-x c = search needs
+add-add-four : tie.Need-add-add-four Inv-loop μ-loop
+add-add-four c = search needs
 
-slice-read-x : tie.Need-slice-read-x Inv-loop μ-loop
-slice-read-x c = search needs
+add-add-four-2 : tie.Need-add-add-four-2 Inv-loop μ-loop
+add-add-four-2 c = search needs
 
-add-y : tie.Need-add-y Inv-loop μ-loop
-add-y c = search needs
+add-four-requires : tie.Need-add-four-requires Inv-loop μ-loop
+add-four-requires c κs = search needs
 
-mul-y : tie.Need-mul-y Inv-loop μ-loop
-mul-y c = search needs
+add-add-four-3 : tie.Need-add-add-four-3 Inv-loop μ-loop
+add-add-four-3 c = search needs
 
-slice-read-y : tie.Need-slice-read-y Inv-loop μ-loop
-slice-read-y c = search needs
+add-add-four-4 : tie.Need-add-add-four-4 Inv-loop μ-loop
+add-add-four-4 c = search needs
 
-add-work : tie.Need-add-work Inv-loop μ-loop
-add-work c = search needs
-
-mul-work : tie.Need-mul-work Inv-loop μ-loop
-mul-work c = search needs
-
-slice-read-work : tie.Need-slice-read-work Inv-loop μ-loop
-slice-read-work c = search needs
-
-add-work-2 : tie.Need-add-work-2 Inv-loop μ-loop
-add-work-2 c = search needs
-
-mul-work-2 : tie.Need-mul-work-2 Inv-loop μ-loop
-mul-work-2 c = search needs
-
-slice-write-work : tie.Need-slice-write-work Inv-loop μ-loop
-slice-write-work c = search needs
-
-add-work-3 : tie.Need-add-work-3 Inv-loop μ-loop
-add-work-3 c = search needs
-
-mul-work-3 : tie.Need-mul-work-3 Inv-loop μ-loop
-mul-work-3 c = search needs
-
-slice-write-work-2 : tie.Need-slice-write-work-2 Inv-loop μ-loop
-slice-write-work-2 c = simp length-set (omega arith)
+add-four-requires-2 : tie.Need-add-four-requires-2 Inv-loop μ-loop
+add-four-requires-2 c κs = search needs
 
 add-k : tie.Need-add-k Inv-loop μ-loop
 add-k c = search needs
@@ -77,21 +53,46 @@ loop-less c = search needs
 
 loop-again : tie.Need-loop-again Inv-loop μ-loop
 loop-again c =
-    let l = c .before .before .before .before .loop in
-    let s = c .before .before .before .before .before in
+    let l = c .before .before .before .before .before .before .before .before .before .loop in
+    let s = c .before .before .before .before .before .before .before .before .before .before .before in
     let a = s .args in
-    (search needs, simp length-set (l .inv .1), both-more (now (a .work)) (a .candidate) (a .error) (a .stage) (a .n) (a .b) (a .e) (s .pre .0) (s .pre .1) (l .k) (c .before .before .before .loop-test .taken) (l .inv .2))
+    let v = l .work in
+    let k = l .k in
+    let first = c .before .before .before .before .before .before .add-four in
+    let second = c .before .before .add-four2 in (
+      search needs,
+      second .kept .0 ∙ first .kept .0 ∙ l .inv .1,
+      both-join (now (a .work)) (a .candidate) (a .error) (a .stage) (a .n) (a .b) (a .e) (s .pre .0) (s .pre .1) k 4 (omega arith) (l .inv .2)
+          (sums-past v (a .candidate + k) (a .error + k) (a .stage + k) 4 (λ j. component v (a .candidate + k) j ⊕ a .b ⊗ component v (a .stage + k) j) (a .e) (omega arith) (omega arith) (first .ensures) (second .ensures)),
+    )
+
+add-add-remainder : tie.Need-add-add-remainder Inv-loop μ-loop
+add-add-remainder c = search needs
+
+add-add-remainder-2 : tie.Need-add-add-remainder-2 Inv-loop μ-loop
+add-add-remainder-2 c = search needs
+
+add-add-remainder-3 : tie.Need-add-add-remainder-3 Inv-loop μ-loop
+add-add-remainder-3 c = search needs
+
+sub-add-remainder : tie.Need-sub-add-remainder Inv-loop μ-loop
+sub-add-remainder c = search needs
+
+add-remainder-requires : tie.Need-add-remainder-requires Inv-loop μ-loop
+add-remainder-requires c κs = search needs
 
 same-length : tie.Need-same-length Inv-loop μ-loop
 same-length c = search needs
 
 returns : tie.Need-returns Inv-loop μ-loop
 returns c =
-    let l = c .before .loop in
-    let a = c .before .before .args in
+    let l = c .before .before .before .before .before .loop in
+    let s = c .before .before .before .before .before .before .before in
+    let a = s .args in
     let w = now (a .work) in
-    let q : l .k ≡ a .n = omega arith in
-    l .inv .2
+    let m = a .n - l .k in
+    let q : l .k + m ≡ a .n = omega arith in
+    both-join w (a .candidate) (a .error) (a .stage) (a .n) (a .b) (a .e) (s .pre .0) (s .pre .1) (l .k) m (omega arith) (l .inv .2) (c .before .before .add-remainder .ensures)
     ∙ ap (λ (z : ℕ). puts (puts w (a .candidate) (λ k. component w (a .candidate) k ⊕ a .b ⊗ component w (a .stage) k) z) (a .error) (λ k. component w (a .error) k ⊕ a .e ⊗ component w (a .stage) k) z) q
 
 pub add-to-both-spec : {M : Type 1} → statement M
@@ -101,23 +102,20 @@ add-to-both-spec =
     Inv-loop
     μ-loop
     loop-holds
-    add-x
-    mul-x
-    slice-read-x
-    add-y
-    mul-y
-    slice-read-y
-    add-work
-    mul-work
-    slice-read-work
-    add-work-2
-    mul-work-2
-    slice-write-work
-    add-work-3
-    mul-work-3
-    slice-write-work-2
+    add-loop
+    add-add-four
+    add-add-four-2
+    add-four-requires
+    add-add-four-3
+    add-add-four-4
+    add-four-requires-2
     add-k
     loop-less
     loop-again
+    add-add-remainder
+    add-add-remainder-2
+    add-add-remainder-3
+    sub-add-remainder
+    add-remainder-requires
     same-length
     returns)

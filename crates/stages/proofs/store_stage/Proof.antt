@@ -1,14 +1,16 @@
 -- `stages::store_stage` meets its contract: both vectors are written side by side. Assumes nothing.
-use Prim.Native.Nat.{ℕ, _-_, _≤_}
+use Prim.Native.Nat.{ℕ, _+_, _-_, _≤_}
 use native.Mathlib.Omega.{arith}
 use mathlib.Core.Path.{_≡_, refl, ap, _∙_}
 use denote.Ref.{now}
 use borrow.Author.Needs.{needs}
-use lib.ListN.{length, length-set}
+use lib.ListN.{length}
+use lib.Ieee.{nan}
 use Rattle.float.specs.Operators.{_⊗_}
 use Rattle.vector.specs.Lists.{el}
-use Rattle.vector.specs.Parts.{puts}
-use Rattle.vector.proofs.Stores.{puts-both}
+use Rattle.vector.specs.Parts.{part, puts}
+use Rattle.vector.proofs.Parts.{part-at}
+use Rattle.stages.proofs.Steps.{stored-join}
 use Rattle.stages.proofs.store_stage.Statement.{statement}
 use Rattle.stages.proofs.store_stage.Tie as tie
 
@@ -23,29 +25,11 @@ loop-holds : tie.Need-loop-holds Inv-loop μ-loop
 unfolding puts
 loop-holds c = (search needs, search needs, refl)
 
-mul-x : tie.Need-mul-x Inv-loop μ-loop
-mul-x c = search needs
+add-loop : tie.Need-add-loop Inv-loop μ-loop
+add-loop c = search needs
 
-shared-slice-read-x : tie.Need-shared-slice-read-x Inv-loop μ-loop
-shared-slice-read-x c = search needs
-
-add-work : tie.Need-add-work Inv-loop μ-loop
-add-work c = search needs
-
-mul-work : tie.Need-mul-work Inv-loop μ-loop
-mul-work c = search needs
-
-slice-write-work : tie.Need-slice-write-work Inv-loop μ-loop
-slice-write-work c = search needs
-
-add-work-2 : tie.Need-add-work-2 Inv-loop μ-loop
-add-work-2 c = search needs
-
-mul-work-2 : tie.Need-mul-work-2 Inv-loop μ-loop
-mul-work-2 c = search needs
-
-slice-write-work-2 : tie.Need-slice-write-work-2 Inv-loop μ-loop
-slice-write-work-2 c = simp length-set (omega arith)
+store-four-requires : tie.Need-store-four-requires Inv-loop μ-loop
+store-four-requires c κs = search needs
 
 add-k : tie.Need-add-k Inv-loop μ-loop
 add-k c = search needs
@@ -55,21 +39,52 @@ loop-less c = search needs
 
 loop-again : tie.Need-loop-again Inv-loop μ-loop
 loop-again c =
-    let l = c .before .before .loop in
-    let a = c .before .before .before .args in
-    let x = now (a .solution) in
-    (search needs, simp length-set (l .inv .1), rw (l .inv .2) (puts-both (now (a .work)) (a .rhs) (a .stage) (el x) (λ k. a .c ⊗ el x k) (l .k) (omega arith) refl refl))
+    let l = c .before .before .before .before .before .loop in
+    let a = c .before .before .before .before .before .before .before .before .args in
+    let x = now (a .solution) in (
+      search needs,
+      c .before .before .store-four .kept .0 ∙ l .inv .1,
+      stored-join (now (a .work)) (a .rhs) (a .stage) (el x) (a .c) (l .k) 4 (omega arith) (λ j. el x (l .k + j)) (λ j h. refl) (l .inv .2) (c .before .before .store-four .ensures),
+    )
+
+mul-store-remainder : tie.Need-mul-store-remainder Inv-loop μ-loop
+mul-store-remainder c = search needs
+
+sub-store-remainder : tie.Need-sub-store-remainder Inv-loop μ-loop
+sub-store-remainder c = search needs
+
+part-store-remainder-start : tie.Need-part-store-remainder-start Inv-loop μ-loop
+part-store-remainder-start c = search needs
+
+part-store-remainder-end : tie.Need-part-store-remainder-end Inv-loop μ-loop
+part-store-remainder-end c = search needs
+
+add-store-remainder : tie.Need-add-store-remainder Inv-loop μ-loop
+add-store-remainder c = search needs
+
+add-store-remainder-2 : tie.Need-add-store-remainder-2 Inv-loop μ-loop
+add-store-remainder-2 c = search needs
+
+sub-store-remainder-2 : tie.Need-sub-store-remainder-2 Inv-loop μ-loop
+sub-store-remainder-2 c = search needs
+
+store-remainder-requires : tie.Need-store-remainder-requires Inv-loop μ-loop
+store-remainder-requires c κs = search needs
 
 same-length : tie.Need-same-length Inv-loop μ-loop
 same-length c = search needs
 
 returns : tie.Need-returns Inv-loop μ-loop
 returns c =
-    let l = c .before .loop in
-    let a = c .before .before .args in
+    let l = c .before .before .before .before .before .before .loop in
+    let a = c .before .before .before .before .before .before .before .before .before .args in
+    let w = now (a .work) in
     let x = now (a .solution) in
-    let e : l .k ≡ a .n = omega arith in
-    l .inv .2 ∙ ap (λ (k : ℕ). puts (puts (now (a .work)) (a .rhs) (el x) k) (a .stage) (λ z. a .c ⊗ el x z) k) e
+    let m = a .n - l .k in
+    let e : l .k + m ≡ a .n = omega arith in
+    stored-join w (a .rhs) (a .stage) (el x) (a .c) (l .k) m (omega arith) (el (part (l .k) (length x - l .k) x)) (λ j h. part-at nan (l .k) (length x - l .k) x j (omega arith)) (l .inv .2)
+    (c .before .before .store-remainder .ensures)
+    ∙ ap (λ (k : ℕ). puts (puts w (a .rhs) (el x) k) (a .stage) (λ z. a .c ⊗ el x z) k) e
 
 pub store-stage-spec : {M : Type 1} → statement M
 store-stage-spec =
@@ -78,16 +93,18 @@ store-stage-spec =
     Inv-loop
     μ-loop
     loop-holds
-    mul-x
-    shared-slice-read-x
-    add-work
-    mul-work
-    slice-write-work
-    add-work-2
-    mul-work-2
-    slice-write-work-2
+    add-loop
+    store-four-requires
     add-k
     loop-less
     loop-again
+    mul-store-remainder
+    sub-store-remainder
+    part-store-remainder-start
+    part-store-remainder-end
+    add-store-remainder
+    add-store-remainder-2
+    sub-store-remainder-2
+    store-remainder-requires
     same-length
     returns)

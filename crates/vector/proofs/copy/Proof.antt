@@ -1,59 +1,101 @@
 -- `vector::copy` meets its contract: the front is made of the elements of src. Assumes nothing.
-use Prim.Native.Nat.{_-_, _≤_}
+use Prim.Native.Nat.{_+_, _-_, _≤_}
 use native.Mathlib.Omega.{arith}
-use mathlib.Core.Path.{_≡_, refl, _∙_}
+use mathlib.Core.Path.{_≡_, refl, ap, _∙_}
+use mathlib.Core.List.{List}
 use denote.Ref.{now}
 use borrow.Author.Needs.{needs}
-use mathlib.Core.List.{_++_}
-use lib.ListN.{length, drop, length-set}
-use lib.Ieee.{nan}
-use Rattle.vector.specs.Lists.{el, table}
-use Rattle.vector.proofs.Lists.{table-own, none-made, one-made, all-made}
+use lib.ListN.{length, length-set}
+use lib.Ieee.{Float, nan}
+use Rattle.vector.specs.Lists.{el}
+use Rattle.vector.specs.Parts.{puts}
+use Rattle.vector.proofs.Lists.{table-own}
+use Rattle.vector.proofs.Stores.{puts-kept, front-more, front-join}
+use Rattle.vector.proofs.Parts.{puts-all}
 use Rattle.vector.proofs.copy.Statement.{statement}
 use Rattle.vector.proofs.copy.Tie as tie
 
 abbrev Inv-loop : tie.InvT-loop
-Inv-loop dst₀ src i₀ dst i = (i ≤ length dst₀) × (length dst ≡ length dst₀) × (dst ≡ table (el src) i ++ drop i dst₀)
+Inv-loop dst₀ src i₀ dst i = (i ≤ length dst₀) × (length dst ≡ length dst₀) × (dst ≡ puts dst₀ 0 (el src) i)
 
 abbrev μ-loop : tie.MeasureT-loop
 μ-loop dst₀ src i₀ dst i = length dst₀ - i
 
-loop-holds : tie.Need-loop-holds Inv-loop μ-loop
-loop-holds c = (search needs, search needs, none-made _ _)
+abbrev Inv-loop2 : tie.InvT-loop2
+Inv-loop2 dst₀ src i₀ dst i = (i ≤ length dst₀) × (length dst ≡ length dst₀) × (dst ≡ puts dst₀ 0 (el src) i)
 
-mul-dst : tie.Need-mul-dst Inv-loop μ-loop
-mul-dst c = search needs
+abbrev μ-loop2 : tie.MeasureT-loop2
+μ-loop2 dst₀ src i₀ dst i = length dst₀ - i
 
-shared-slice-read-dst : tie.Need-shared-slice-read-dst Inv-loop μ-loop
-shared-slice-read-dst c = search needs
+loop-holds : tie.Need-loop-holds Inv-loop μ-loop Inv-loop2 μ-loop2
+unfolding puts
+loop-holds c = (search needs, search needs, refl)
 
-mul-dst-2 : tie.Need-mul-dst-2 Inv-loop μ-loop
-mul-dst-2 c = search needs
+add-loop : tie.Need-add-loop Inv-loop μ-loop Inv-loop2 μ-loop2
+add-loop c = search needs
 
-slice-write-dst : tie.Need-slice-write-dst Inv-loop μ-loop
-slice-write-dst c = search needs
+copy-four-requires : tie.Need-copy-four-requires Inv-loop μ-loop Inv-loop2 μ-loop2
+copy-four-requires c κs = search needs
 
-add-i : tie.Need-add-i Inv-loop μ-loop
+add-i : tie.Need-add-i Inv-loop μ-loop Inv-loop2 μ-loop2
 add-i c = search needs
 
-loop-less : tie.Need-loop-less Inv-loop μ-loop
+loop-less : tie.Need-loop-less Inv-loop μ-loop Inv-loop2 μ-loop2
 loop-less c = search needs
 
-loop-again : tie.Need-loop-again Inv-loop μ-loop
+loop-again : tie.Need-loop-again Inv-loop μ-loop Inv-loop2 μ-loop2
 loop-again c =
-    let l = c .before .before .loop in
-    let a = c .before .before .before .args in
-    (search needs, simp length-set (l .inv .1), one-made (el (now (a .src))) (l .i) (now (a .dst)) _ (omega arith) (l .inv .2) refl)
+    let l = c .before .before .before .before .before .loop in
+    let a = c .before .before .before .before .before .before .before .before .args in
+    let x = now (a .src) in (
+      search needs,
+      c .before .before .copy-four .kept .0 ∙ l .inv .1,
+      c .before .before .copy-four .ensures
+          ∙ ap (λ (d : List Float). puts d (l .i) (λ j. el x (l .i + j)) 4) (l .inv .2)
+          ∙ front-join (now (a .dst)) (el x) (l .i) 4,
+    )
 
-same-length : tie.Need-same-length Inv-loop μ-loop
+loop2-holds : tie.Need-loop2-holds Inv-loop μ-loop Inv-loop2 μ-loop2
+loop2-holds c =
+    let l = c .before .loop in
+    let a = c .before .before .before .before .args in
+    (omega arith, refl, puts-kept (now (a .dst)) 0 (el (now (a .src))) (l .i) (l .inv .2))
+
+mul-dst : tie.Need-mul-dst Inv-loop μ-loop Inv-loop2 μ-loop2
+mul-dst c = search needs
+
+shared-slice-read-dst : tie.Need-shared-slice-read-dst Inv-loop μ-loop Inv-loop2 μ-loop2
+shared-slice-read-dst c = search needs
+
+mul-dst-2 : tie.Need-mul-dst-2 Inv-loop μ-loop Inv-loop2 μ-loop2
+mul-dst-2 c = search needs
+
+slice-write-dst : tie.Need-slice-write-dst Inv-loop μ-loop Inv-loop2 μ-loop2
+slice-write-dst c = search needs
+
+add-i-2 : tie.Need-add-i-2 Inv-loop μ-loop Inv-loop2 μ-loop2
+add-i-2 c = search needs
+
+loop2-less : tie.Need-loop2-less Inv-loop μ-loop Inv-loop2 μ-loop2
+loop2-less c = search needs
+
+loop2-again : tie.Need-loop2-again Inv-loop μ-loop Inv-loop2 μ-loop2
+loop2-again c =
+    let l = c .before .before .loop2 in
+    let d = c .before .before .before .before .loop .dst in
+    let x = now (c .before .before .before .before .before .before .before .args .src) in
+    (search needs, simp length-set (l .inv .1), rw (l .inv .2) (front-more d (el x) (l .i)))
+
+same-length : tie.Need-same-length Inv-loop μ-loop Inv-loop2 μ-loop2
 same-length c = search needs
 
-returns : tie.Need-returns Inv-loop μ-loop
+returns : tie.Need-returns Inv-loop μ-loop Inv-loop2 μ-loop2
 returns c =
-    let l = c .before .loop in
-    let a = c .before .before .args in
-    all-made (el (now (a .src))) (l .i) (now (a .dst)) _ (length (now (a .src))) (omega arith) (omega arith) (l .inv .2)
-    ∙ table-own nan (now (a .src)) (length (now (a .src))) refl
+    let l = c .before .loop2 in
+    let d = c .before .before .before .loop .dst in
+    let x = now (c .before .before .before .before .before .before .args .src) in
+    let e : l .i ≡ length x = omega arith in
+    l .inv .2 ∙ ap (puts d 0 (el x)) e ∙ puts-all d (el x) (length x) nan (omega arith) ∙ table-own nan x (length x) refl
 
 pub copy-spec : {M : Type 1} → statement M
 copy-spec =
@@ -61,13 +103,21 @@ copy-spec =
     (tie.spec
     Inv-loop
     μ-loop
+    Inv-loop2
+    μ-loop2
     loop-holds
+    add-loop
+    copy-four-requires
+    add-i
+    loop-less
+    loop-again
+    loop2-holds
     mul-dst
     shared-slice-read-dst
     mul-dst-2
     slice-write-dst
-    add-i
-    loop-less
-    loop-again
+    add-i-2
+    loop2-less
+    loop2-again
     same-length
     returns)
