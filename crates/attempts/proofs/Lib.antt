@@ -2,4 +2,4 @@
 pub mod Lengths
 pub mod Requests
 pub mod Links
-pub mod Plain
+pub mod Settings

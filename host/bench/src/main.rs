@@ -96,13 +96,17 @@ fn median(mut times: Vec<f64>) -> f64 {
     times[times.len() / 2]
 }
 
+fn chosen(name: &str) -> bool {
+    std::env::args().skip(1).all(|word| name.contains(&word))
+}
+
 fn beside<I, T, U>(
     name: &str,
     inputs: &[I],
     mut port: impl FnMut(&I) -> T,
     mut original: impl FnMut(&I) -> U,
 ) {
-    if !std::env::args().skip(1).all(|word| name.contains(&word)) {
+    if !chosen(name) {
         return;
     }
     let (mut ports, mut originals) = (Vec::new(), Vec::new());
@@ -113,6 +117,15 @@ fn beside<I, T, U>(
     let (port, original) = (median(ports), median(originals));
     let ratio = port / original;
     println!("{name:<17} port {port:8.2} ns  original {original:8.2} ns  ratio {ratio:.2}");
+}
+
+/// A call that the original has nothing beside.
+fn alone<I, T>(name: &str, inputs: &[I], mut port: impl FnMut(&I) -> T) {
+    if !chosen(name) {
+        return;
+    }
+    let port = median((0..BATCHES).map(|_| batch(inputs, &mut port)).collect());
+    println!("{name:<17} port {port:8.2} ns");
 }
 
 // Not inlined, as the port's calls, which stand behind a C interface, cannot be.
@@ -337,6 +350,29 @@ fn rows(lower: &[f64], s: usize) -> Vec<Vec<f64>> {
     (0..s).map(|i| row(i).collect()).collect()
 }
 
+/// What a supply's tests take: one value too many is refused after the record, the lengths and the
+/// file have been looked at, and nothing is written.
+fn supply_tests(file: &[u8], s: usize) {
+    use wiqhano::rosenbrock::calls;
+    let mut memory = calls::Memory::new(&[1.0; 4], s);
+    let policy = wiqhano::TimeDifferencePolicy::default().into();
+    let mut record = calls::new(file, policy, 0.0, memory.lend()).expect("a stepper");
+    let modes = calls::Modes {
+        host_jacobian: true,
+        host_time_partial: true,
+    };
+    let opened = calls::attempt_in_place(&mut record, file, 0.125, modes, memory.lend());
+    assert_eq!(opened, Ok(calls::Told::Asked));
+    alone(
+        &format!("supply refused s {s}"),
+        &[[0.0; 5]; INPUTS],
+        |values| {
+            let answer = calls::supply_in_place(&mut record, file, values, memory.lend());
+            assert_eq!(answer, Err(wiqhano::Failure::Dimension));
+        },
+    );
+}
+
 /// Whole attempts: accepted, so that everything is asked for; and rejected and repeated, with the
 /// derivative, the Jacobian and the time partial kept.
 fn steppers(random: &mut Random) {
@@ -376,6 +412,7 @@ fn steppers(random: &mut Random) {
             btilde: Some(btilde),
         }
         .file();
+        supply_tests(&file, s);
         for n in [1, 2, 4, 8, 16, 32] {
             let mut some = |k: usize| -> Vec<f64> { (0..k).map(|_| random.unit() - 0.5).collect() };
             let state = some(n);

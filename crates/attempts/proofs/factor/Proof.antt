@@ -5,7 +5,7 @@ use Rattle.attempts.specs.Marks.{countingFactorization, countingSolve, c
 use Rattle.attempts.specs.Attempt.{onMarks}
 use Rattle.attempts.specs.Calls.{factorStop}
 use Rattle.attempts.proofs.Links.{told}
-use Rattle.attempts.proofs.Plain.{factor-plain}
+use Rattle.attempts.proofs.Settings.{factor-reduced}
 use Rattle.attempts.proofs.factor.Statement.{statement}
 use Rattle.attempts.proofs.factor.Tie as tie
 
@@ -26,7 +26,7 @@ same-length-2 c = search needs
 
 returns : tie.Need-returns
 unfolding factorStop
-returns c = c .stage-stop .ensures _ _ ∙ told _ (c .before .before .outcome .given .1) (c .before .before .before .before .before .before .before .before .factor-outcome .ensures _) ∙ factor-plain _ _ _ _
+returns c = c .stage-stop .ensures _ _ ∙ told _ (c .before .before .outcome .given .1) (c .before .before .before .before .before .before .before .before .factor-outcome .ensures _) ∙ factor-reduced _ _ _ _
 
 enum-known-outcome-2 : tie.Need-enum-known-outcome-2
 enum-known-outcome-2 c = search needs
@@ -42,7 +42,7 @@ same-length-4 c = search needs
 
 returns-2 : tie.Need-returns-2
 unfolding factorStop onMarks counting countingFactorization
-returns-2 c = c .stage-stop2 .ensures _ _ ∙ told _ (c .before .before .before .outcome2 .given .1) (c .before .before .before .before .before .before .before .before .before .factor-outcome .ensures _) ∙ factor-plain _ _ _ _
+returns-2 c = c .stage-stop2 .ensures _ _ ∙ told _ (c .before .before .before .outcome2 .given .1) (c .before .before .before .before .before .before .before .before .before .factor-outcome .ensures _) ∙ factor-reduced _ _ _ _
 
 enum-known-outcome-3 : tie.Need-enum-known-outcome-3
 enum-known-outcome-3 c = search needs
@@ -58,7 +58,7 @@ same-length-6 c = search needs
 
 returns-3 : tie.Need-returns-3
 unfolding factorStop onMarks counting countingFactorization countingSolve
-returns-3 c = c .stage-stop3 .ensures _ _ ∙ told _ (c .before .before .before .before .outcome3 .given .1) (c .before .before .before .before .before .before .before .before .before .before .factor-outcome .ensures _) ∙ factor-plain _ _ _ _
+returns-3 c = c .stage-stop3 .ensures _ _ ∙ told _ (c .before .before .before .before .outcome3 .given .1) (c .before .before .before .before .before .before .before .before .before .before .factor-outcome .ensures _) ∙ factor-reduced _ _ _ _
 
 pub factor-spec : {M : Type 1} → statement M
 factor-spec =

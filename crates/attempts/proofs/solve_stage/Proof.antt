@@ -3,7 +3,7 @@ use mathlib.Core.Path.{_∙_}
 use borrow.Author.Needs.{needs}
 use Rattle.attempts.specs.Marks.{countingSolve, counting}
 use Rattle.attempts.specs.Attempt.{onMarks}
-use Rattle.attempts.proofs.Plain.{solve-plain}
+use Rattle.attempts.proofs.Settings.{solve-reduced}
 use Rattle.attempts.proofs.solve_stage.Statement.{statement}
 use Rattle.attempts.proofs.solve_stage.Tie as tie
 
@@ -18,7 +18,7 @@ same-length c = search needs
 
 returns : tie.Need-returns
 unfolding onMarks counting countingSolve
-returns c = c .stage-stop .ensures _ _ ∙ c .before .before .before .before .stage-outcome .ensures _ ∙ solve-plain _ _ _ _ _
+returns c = c .stage-stop .ensures _ _ ∙ c .before .before .before .before .stage-outcome .ensures _ ∙ solve-reduced _ _ _ _ _
 
 pub solve-stage-spec : {M : Type 1} → statement M
 solve-stage-spec =

@@ -9,13 +9,13 @@ use Rattle.attempts.specs.Attempt.{Scratch, given, show, finish, askStag
 use Rattle.attempts.specs.Calls.{settingAt}
 
 module _ (g : Setting) (t : Tableau) (state : List Float) where
-  abbrev alike : Setting
-  alike = settingAt (g .n) (g .s) (g .time) (g .step)
+  abbrev reduced : Setting
+  reduced = settingAt (g .n) (g .s) (g .time) (g .step)
 
-  pub solve-plain : (i : ℕ) (x : Scratch) → solveStage (given alike t state) i x ≡ solveStage (given g t state) i x
+  pub solve-reduced : (i : ℕ) (x : Scratch) → solveStage (given reduced t state) i x ≡ solveStage (given g t state) i x
   unfolding solveStage nextStage openStage askStage finish show
-  solve-plain i x = refl
+  solve-reduced i x = refl
 
-  pub factor-plain : (x : Scratch) → factor (given alike t state) x ≡ factor (given g t state) x
+  pub factor-reduced : (x : Scratch) → factor (given reduced t state) x ≡ factor (given g t state) x
   unfolding factor firstStage solveStage nextStage openStage askStage finish show
-  factor-plain x = refl
+  factor-reduced x = refl
