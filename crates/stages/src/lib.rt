@@ -4,7 +4,7 @@ ghost use mathlib.Core.Path.{_≡_};
 ghost use mathlib.Core.Bool.{cond};
 ghost use Prim.Native.Nat.{_+_, _*_, _≤_, _<_};
 ghost use lib.Dec.{eqb};
-ghost use lib.ListN.{length};
+ghost use lib.ListN.{length, set};
 ghost use Rattle.float.specs.Operators.{_⊕_, _⊖_, _⊗_, _⊘_, 𝟎, 𝟏};
 ghost use Rattle.vector.specs.Lists.{el, table};
 ghost use Rattle.vector.specs.Parts.{puts};
@@ -129,6 +129,17 @@ fn right_hand_side(
     add_couplings(rhs, work, file, n, s, i, step);
 }
 
+// Stores four values side by side.
+fn put_four(work: &mut [f64], at: usize, a: f64, b: f64, c: f64, d: f64)
+    requires { ⌜ at + 4 ≤ length (now work) ⌝ }
+    ensures { λ _. ⌜ now (work .exit) ≡ set (set (set (set (now (work .entry)) at a) (at + 1) b) (at + 2) c) (at + 3) d ⌝ }
+{
+    work[at] = a;
+    work[at + 1] = b;
+    work[at + 2] = c;
+    work[at + 3] = d;
+}
+
 // Stores four components of a solution from k on, and c times them in the stage.
 fn store_four(work: &mut [f64], solution: &[f64], rhs: usize, stage: usize, k: usize, c: f64)
     requires { ⌜ (k + 4 ≤ length (now solution)) × (rhs + k + 4 ≤ length (now work)) × (stage + k + 4 ≤ length (now work)) ⌝ }
@@ -139,14 +150,8 @@ fn store_four(work: &mut [f64], solution: &[f64], rhs: usize, stage: usize, k: u
     let x1 = solution[k + 1];
     let x2 = solution[k + 2];
     let x3 = solution[k + 3];
-    work[rhs + k] = x0;
-    work[rhs + k + 1] = x1;
-    work[rhs + k + 2] = x2;
-    work[rhs + k + 3] = x3;
-    work[stage + k] = c * x0;
-    work[stage + k + 1] = c * x1;
-    work[stage + k + 2] = c * x2;
-    work[stage + k + 3] = c * x3;
+    put_four(work, rhs + k, x0, x1, x2, x3);
+    put_four(work, stage + k, c * x0, c * x1, c * x2, c * x3);
 }
 
 // Stores a solution, and c times it as the stage at `stage`, one component at a time.
@@ -235,10 +240,7 @@ fn add_four(work: &mut [f64], to: usize, from: usize, b: f64)
     let x1 = work[to + 1] + b * work[from + 1];
     let x2 = work[to + 2] + b * work[from + 2];
     let x3 = work[to + 3] + b * work[from + 3];
-    work[to] = x0;
-    work[to + 1] = x1;
-    work[to + 2] = x2;
-    work[to + 3] = x3;
+    put_four(work, to, x0, x1, x2, x3);
 }
 
 // Adds b times the stage at `stage` to the candidate, and e times it to the error, one component

@@ -1,11 +1,9 @@
 -- `stages::add_four` meets its contract. Assumes nothing.
 use Prim.Native.Nat.{ℕ}
-use native.Mathlib.Omega.{arith}
 use native.Mathlib.Nat.{add-zero}
-use mathlib.Core.Path.{sym, ap₂}
+use mathlib.Core.Path.{sym, ap₂, _∙_}
 use denote.Ref.{now}
 use borrow.Author.Needs.{needs}
-use lib.ListN.{length-set}
 use Rattle.float.specs.Operators.{_⊕_, _⊗_}
 use Rattle.vector.specs.Lists.{el}
 use Rattle.vector.proofs.Stores.{four-puts}
@@ -79,47 +77,18 @@ mul-x3-2 c = search needs
 slice-read-x3-2 : tie.Need-slice-read-x3-2
 slice-read-x3-2 c = search needs
 
-mul-work : tie.Need-mul-work
-mul-work c = search needs
-
-slice-write-work : tie.Need-slice-write-work
-slice-write-work c = search needs
-
-add-work : tie.Need-add-work
-add-work c = search needs
-
-mul-work-2 : tie.Need-mul-work-2
-mul-work-2 c = search needs
-
-slice-write-work-2 : tie.Need-slice-write-work-2
-slice-write-work-2 c = simp length-set (omega arith)
-
-add-work-2 : tie.Need-add-work-2
-add-work-2 c = search needs
-
-mul-work-3 : tie.Need-mul-work-3
-mul-work-3 c = search needs
-
-slice-write-work-3 : tie.Need-slice-write-work-3
-slice-write-work-3 c = simp length-set (omega arith)
-
-add-work-3 : tie.Need-add-work-3
-add-work-3 c = search needs
-
-mul-work-4 : tie.Need-mul-work-4
-mul-work-4 c = search needs
-
-slice-write-work-4 : tie.Need-slice-write-work-4
-slice-write-work-4 c = simp length-set (omega arith)
+put-four-requires : tie.Need-put-four-requires
+put-four-requires c κs = search needs
 
 same-length : tie.Need-same-length
 same-length c = search needs
 
 returns : tie.Need-returns
 returns c =
-    let a = c .before .before .before .before .before .before .before .before .args in
+    let a = c .before .before .before .before .before .before .before .before .before .before .before .before .before .args in
     let w = now (a .work) in
-    four-puts w (a .to) (λ k. component w (a .to) k ⊕ a .b ⊗ component w (a .from) k) (ap₂ (λ (i j : ℕ). el w i ⊕ a .b ⊗ el w j) (sym (add-zero (a .to))) (sym (add-zero (a .from))))
+    c .before .before .put-four .ensures
+    ∙ four-puts w (a .to) (λ k. component w (a .to) k ⊕ a .b ⊗ component w (a .from) k) (ap₂ (λ (i j : ℕ). el w i ⊕ a .b ⊗ el w j) (sym (add-zero (a .to))) (sym (add-zero (a .from))))
 
 pub add-four-spec : {M : Type 1} → statement M
 add-four-spec =
@@ -147,16 +116,6 @@ add-four-spec =
     add-x3-2
     mul-x3-2
     slice-read-x3-2
-    mul-work
-    slice-write-work
-    add-work
-    mul-work-2
-    slice-write-work-2
-    add-work-2
-    mul-work-3
-    slice-write-work-3
-    add-work-3
-    mul-work-4
-    slice-write-work-4
+    put-four-requires
     same-length
     returns)
