@@ -11,7 +11,7 @@ ghost use Rattle.vector.specs.Lists.{allFinite};
 ghost use Rattle.vector.specs.Parts.{part, puts};
 ghost use Rattle.tableau.specs.Tableau.{Tableau, present, cOf};
 ghost use Rattle.tableau.specs.File.{tableauOf};
-ghost use Rattle.stages.specs.Layout.{Room, Stage, PivotRows};
+ghost use Rattle.stages.specs.Layout.{Stage, PivotRows};
 ghost use Rattle.stages.specs.Memory.{component};
 ghost use Rattle.attempts.specs.Marks.{countingFactorization, countingSolve, counting};
 ghost use Rattle.attempts.specs.Attempt.{Scratch, given, scratch, stopped, onMarks, refuse, ask, askRhs, show, finish, askStage, openStage, nextStage, solveStage, firstStage, factor};

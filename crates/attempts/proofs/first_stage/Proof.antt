@@ -3,8 +3,7 @@ use Prim.Native.Nat.{_+_, _*_}
 use native.Mathlib.Omega.{arith}
 use mathlib.Core.Path.{_≡_, refl, _∙_}
 use borrow.Author.Needs.{needs}
-use Rattle.attempts.specs.Marks.{countingFactorization, counting}
-use Rattle.attempts.specs.Attempt.{onWork, onMarks, refuse, askStage, solveStage, firstStage}
+use Rattle.attempts.specs.Attempt.{onWork, onMarks, refuse, solveStage, firstStage}
 use Rattle.attempts.specs.Calls.{stageStop, factorStop}
 use Rattle.attempts.proofs.Links.{choose-yes, choose-no, go, ended, finite, not-finite, zero-as, via, left, copied, stage-of}
 use Rattle.attempts.proofs.first_stage.Statement.{statement}

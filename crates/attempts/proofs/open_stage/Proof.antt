@@ -2,7 +2,7 @@
 use Prim.Native.Nat.{_*_}
 use mathlib.Core.Path.{_∙_}
 use borrow.Author.Needs.{needs}
-use Rattle.attempts.specs.Attempt.{onWork, refuse, askStage, openStage}
+use Rattle.attempts.specs.Attempt.{onWork, refuse, openStage}
 use Rattle.attempts.specs.Calls.{stageStop}
 use Rattle.attempts.proofs.Links.{go, ended, finite, not-finite, left}
 use Rattle.attempts.proofs.open_stage.Statement.{statement}

@@ -1,5 +1,5 @@
 -- `linear::back_rows` meets its contract: the unknowns of the rows passed stand at the end, the last of them is kept, and the rest is as it was. Assumes nothing.
-use Prim.Native.Nat.{ℕ, _-_, _*_, _≤_, _<_}
+use Prim.Native.Nat.{ℕ, _-_, _≤_, _<_}
 use native.Mathlib.Omega.{arith}
 use mathlib.Core.Path.{_≡_, refl, sym, ap, _∙_}
 use denote.Ref.{now}
