@@ -4,24 +4,24 @@ use mathlib.Core.Path.{_≡_, refl, sym, ap, _∙_, subst}
 use mathlib.Core.Bool.{Bool, true, false, not, _&&_, _||_, cond, false≢true}
 use mathlib.Core.List.{List, [], _∷_}
 use Prim.Native.Nat.{ℕ, zero, suc, _*_, _^_, _≤_, _<_}
-use native.Mathlib.Nat.{le-trans, le-of-eq, le-of-lt, one-mul, mul-comm, mul-assoc, mul-left-comm, mul-le-mul-left, mul-le-mul, le-of-mul-le-mul-left, mul-pos, zero-lt-suc, suc-ne-zero}
+use native.Mathlib.Nat.{le-trans, le-of-eq, le-of-lt, one-mul, mul-comm, mul-assoc, mul-left-comm, mul-le-mul-left, mul-le-mul, le-of-mul-le-mul-left, mul-pos, zero-lt-suc}
 use native.Mathlib.Omega.{arith}
 use lib.ListN.{length}
-use lib.IntN.{ℤ, pos}
-use lib.Dec.{T, leb, ltb, eqb, leb→le, ltb→lt, lt→ltb}
+use lib.IntN.{pos}
+use lib.Dec.{T, leb, ltb, eqb, leb→le, ltb→lt}
 use lib.Pow.{pow-pos}
-use lib.Ieee.{Float, nan, inf, fin, binary64, up, down, round, ofBits, mul, div, lt, eq, le, ne, fits, isNan, ofInt}
+use lib.Ieee.{Float, nan, inf, fin, binary64, up, down, round, ofBits, mul, div, lt, eq, le, ne, fits, ofInt}
 use lib.Ieee.Fits.{up-pos, down-pos, mul-fits}
 use lib.Ieee.Scale.{finite}
 use lib.Ieee.Order.{round-mono}
 use lib.Ieee.Positive.{num, den, positive, above, above-of-le, le→cross, mul-mono}
-use borrow.Author.Tests.{eqb-true, ne-eqb, not-false}
+use borrow.Author.Tests.{eqb-true, not-false}
 use Rattle.float.specs.Operators.{_⊗_, _⊘_, 𝟎, 𝟏}
 use Rattle.float.specs.Constants.{ten⁻⁵, ten⁻⁶, hundredth}
 use Rattle.float.specs.Methods.{abs, minNum}
-use Rattle.float.proofs.Cases.{no, holds, never, or-left, or-right, or-yes, or-yes-right}
-use Rattle.float.proofs.Laws.{eq-some, eq-zero, lt-minus}
+use Rattle.float.proofs.Cases.{no, holds, never, or-left, or-right}
 use Rattle.float.proofs.Own.{fit}
+use Rattle.float.proofs.Positive.{above-finite, positive-finite, positive-some, over-zero, smaller, div-some}
 use Rattle.float.proofs.Order.{not-lt-le}
 use Rattle.vector.specs.Lists.{every, allFinite}
 use Rattle.vector.proofs.Lists.{finite-at}
@@ -34,34 +34,7 @@ use Rattle.initial_step.specs.declared.FirstStep.the-variants.{Step, Ref
 use Rattle.initial_step.specs.Norm.{scaledSum, mean, ratios, rms}
 use Rattle.initial_step.specs.First.{allAbove, undirected, inputTests, slight, unbounded, guess, normTests, proposed, initialStep, plainStep}
 
--- ---- numbers above 0
-above-finite : (x : Float) → finite x ≡ true → T (above x) → T (positive x)
-above-finite nan f a = absurd a
-above-finite (inf s) f a = absurd (false≢true f)
-above-finite (fin true m e) f a = absurd a
-above-finite (fin false m e) f a = a
-
-positive-finite : (x : Float) → T (positive x) → finite x ≡ true
-positive-finite nan p = absurd p
-positive-finite (inf s) p = absurd p
-positive-finite (fin s m e) p = refl
-
-positive-some : (x : Float) → T (positive x) → eq x 𝟎 ≡ false
-positive-some nan p = absurd p
-positive-some (inf s) p = absurd p
-positive-some (fin true m e) p = absurd p
-positive-some (fin false zero e) p = absurd p
-positive-some (fin false (suc m) e) p = eq-some false m e
-
--- a finite number that is not at most 0
-over-zero : (x : Float) → finite x ≡ true → le x 𝟎 ≡ false → T (positive x)
-unfolding le
-over-zero nan f h = absurd (false≢true f)
-over-zero (inf s) f h = absurd (false≢true f)
-over-zero (fin s zero e) f h = never (or-yes-right (lt (fin s 0 e) 𝟎) (eq-zero s e)) h
-over-zero (fin true (suc m) e) f h = never (or-yes (eq (fin true (suc m) e) 𝟎) (lt-minus m e)) h
-over-zero (fin false (suc m) e) f h = lt→ltb 0 (suc m) (zero-lt-suc m)
-
+-- ---- the constants
 ten⁻⁵-positive : T (positive ten⁻⁵)
 unfolding ofBits
 ten⁻⁵-positive = tt
@@ -69,6 +42,10 @@ ten⁻⁵-positive = tt
 hundredth-positive : T (positive hundredth)
 unfolding ofBits
 hundredth-positive = tt
+
+ten⁻⁶-positive : T (positive ten⁻⁶)
+unfolding ofBits
+ten⁻⁶-positive = tt
 
 ten⁻⁵-finite : finite ten⁻⁵ ≡ true
 unfolding ofBits
@@ -120,10 +97,6 @@ tiniest-positive = tt
 powers : 2 ^ 1024 * 2 ^ 50 ≡ 2 ^ 1074
 powers = refl
 
-div-some : (m n : ℕ) (e k : ℤ) → fin false m e ⊘ fin false (suc n) k ≡ round binary64 false (m * up e * down k) (suc n * up k * down e)
-unfolding div
-div-some m n e k = sym (no _ (ne-eqb (suc n) 0 (suc-ne-zero n)) refl)
-
 quotient-above : (p d : Float) → T (le floor p) → T (above p) → T (positive d) → T (fits binary64 d) → T (above (p ⊘ d))
 unfolding div
 quotient-above nan d l a q f = absurd a
@@ -145,24 +118,6 @@ quotient-above (fin false m e) (fin false (suc n) k) l a q f =
     (ltb→lt 0 (num floor) floor-some) (leb→le (den floor) (num floor * 2 ^ 50) floor-size) (le→cross floor (fin false m e) floor-positive a l) (le-of-lt (fit false n k f .under)) powers)))
 
 -- ---- the smaller of it and the maximum
-smaller : (x m : Float) → T (above x) → T (positive m) → T (positive (minNum x m))
-unfolding isNan lt
-smaller nan m a p = absurd a
-smaller (inf true) m a p = absurd a
-smaller (inf false) nan a p = absurd p
-smaller (inf false) (inf t) a p = absurd p
-smaller (inf false) (fin s n k) a p = p
-smaller (fin true b e) m a p = absurd a
-smaller (fin false b e) m a p = go (lt m (fin false b e))
-  where
-    go : (t : Bool) → T (positive (cond t m (fin false b e)))
-    go true = p
-    go false = a
-
-ten⁻⁶-positive : T (positive ten⁻⁶)
-unfolding ofBits
-ten⁻⁶-positive = tt
-
 module _ (d₀ d₁ maximum : Float) (held : T (fits binary64 d₁)) (top : T (positive maximum)) where
   quotient-positive : slight d₀ d₁ ≡ false → finite d₀ ≡ true → finite d₁ ≡ true → T (positive (minNum (hundredth ⊗ d₀ ⊘ d₁) maximum))
   unfolding slight
