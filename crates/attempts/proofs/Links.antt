@@ -30,7 +30,7 @@ use Rattle.attempts.specs.declared.Marks.{Marks}
 use Rattle.attempts.specs.declared.StageOutcome.the-variants.{Shows}
 use Rattle.attempts.specs.declared.FactorOutcome.{FactorOutcome}
 use Rattle.attempts.specs.Attempt.{Given, Scratch, Stopped, scratch, refuse, choose, provided, show}
-use Rattle.attempts.specs.Calls.{Fit, stageStop, factorStop}
+use Rattle.attempts.specs.Calls.{stageStop, factorStop}
 
 -- ---- one test
 
@@ -131,6 +131,3 @@ told x e h = sym (ap (λ (z : FactorOutcome). factorStop z x) e) ∙ h
 
 pub stage-of : (n s i : ℕ) → i < s → Stage n s i
 stage-of n s i h = record { below = h; inside = omega (arith, suc-mul i n, mul-le-mul-right n h) }
-
-pub sizes-as : {n s state work work' : ℕ} → work' ≡ work → Fit n s state work → Fit n s state work'
-sizes-as e h = rw e h

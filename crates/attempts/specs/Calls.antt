@@ -1,4 +1,4 @@
--- What the code of an open attempt needs of its callers, and what it says of the memory that it is not lent. Definitions only.
+-- What the code of an open attempt needs of its callers, what its stages hand back, and what it says of the memory that it is not lent. Definitions only.
 use Prim.Native.Nat.{ℕ, _≤_, _<_}
 use mathlib.Core.Path.{_≡_}
 use mathlib.Core.Bool.{false}
