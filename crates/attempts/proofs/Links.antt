@@ -4,7 +4,7 @@ use Prim.Native.Nat.{ℕ, suc, _+_, _*_, _<_}
 use native.Mathlib.Omega.{arith}
 use native.Mathlib.Numerals.{add-one}
 use native.Mathlib.Nat.{suc-mul, mul-le-mul-right}
-use mathlib.Core.Path.{_≡_, sym, ap, _∙_, subst}
+use mathlib.Core.Path.{_≡_, refl, sym, ap, _∙_, subst}
 use mathlib.Core.Bool.{Bool, true, false, not, _&&_}
 use mathlib.Core.List.{List}
 use lib.ListN.{length, getD}
@@ -27,10 +27,14 @@ use Rattle.linear.proofs.Outcomes.{pivots-below, raw-succeeds}
 use Rattle.stages.specs.Layout.{Stage, PivotRows, factorsAt}
 use Rattle.stages.specs.Memory.{component, eliminationIn}
 use Rattle.attempts.specs.declared.Marks.{Marks}
-use Rattle.attempts.specs.declared.StageOutcome.the-variants.{Shows}
+use Rattle.attempts.specs.declared.StageOutcome.{StageOutcome}
 use Rattle.attempts.specs.declared.FactorOutcome.{FactorOutcome}
-use Rattle.attempts.specs.Attempt.{Given, Scratch, Stopped, scratch, refuse, choose, provided, show}
-use Rattle.attempts.specs.Calls.{stageStop, factorStop}
+use Rattle.attempts.specs.declared.FactorOutcome.the-variants as outcome
+use Rattle.attempts.specs.declared.FactorOutcome.the-variants.{Unfactored, Solved}
+use Rattle.attempts.specs.declared.Halt.the-variants as halts
+use Rattle.attempts.specs.Marks.{withCaches, countingFactorization, countingSolve, counting}
+use Rattle.attempts.specs.Attempt.{Given, Scratch, Stopped, scratch, onMarks, refuse, choose, provided, show}
+use Rattle.attempts.specs.Calls.{haltStop, movedMarks, movedStop, movedBy, stageStop, factorMoved, factorStop}
 
 -- ---- one test
 
@@ -120,12 +124,22 @@ pivots-as n p l e = e ∙ ap (λ (z : List Float). eliminationIn n p z .pivots) 
 
 -- ---- what the calls that do the arithmetic hand back
 
-pub shown : (g : Given) (x : Scratch) {b : Bool} → b ≡ (eqb (g .tableau .counts .estimator) 0 && present (g .tableau .counts)) → stageStop (Shows b) x ≡ show g x
-unfolding show stageStop
+pub shown : (g : Given) (x : Scratch) {b : Bool} → b ≡ (eqb (g .tableau .counts .estimator) 0 && present (g .tableau .counts)) → haltStop (halts.Shows b) x ≡ show g x
+unfolding show haltStop
 shown g x e = rw e
 
-pub told : {r r' : FactorOutcome} (x : Scratch) {s : Stopped} → r ≡ r' → factorStop r x ≡ s → factorStop r' x ≡ s
-told x e h = sym (ap (λ (z : FactorOutcome). factorStop z x) e) ∙ h
+module _ (r : StageOutcome) (x : Scratch) where
+  pub unfactored-stop : factorStop (Unfactored r) x ≡ stageStop r x
+  unfolding movedStop movedMarks factorMoved movedBy onMarks withCaches
+  unfactored-stop = refl
+
+  pub factored-stop : factorStop (outcome.Factored r) x ≡ stageStop r (onMarks (counting countingFactorization) x)
+  unfolding movedStop movedMarks factorMoved movedBy onMarks withCaches counting countingFactorization
+  factored-stop = refl
+
+  pub solved-stop : factorStop (Solved r) x ≡ stageStop r (onMarks (counting countingSolve) (onMarks (counting countingFactorization) x))
+  unfolding movedStop movedMarks factorMoved movedBy onMarks withCaches counting countingFactorization countingSolve
+  solved-stop = refl
 
 -- ---- sizes
 

@@ -1,24 +1,29 @@
--- What the code of an open attempt needs of its callers, what its stages hand back, and what it says of the memory that it is not lent. Definitions only.
+-- What the code of an open attempt needs of its callers, what it hands back, and what it says of the memory that it is not lent. Definitions only.
 use Prim.Native.Nat.{ℕ, _≤_, _<_}
 use mathlib.Core.Path.{_≡_}
-use mathlib.Core.Bool.{false}
+use mathlib.Core.Bool.{Bool, true, false, _||_}
 use mathlib.Core.List.{List}
 use lib.ListN.{getD}
 use lib.Ieee.{Float}
 use Rattle.time_difference.specs.Policy.{defaultPolicy}
 use Rattle.stages.specs.Layout.{Room}
 use Rattle.attempts.specs.declared.Setting.{Setting}
+use Rattle.attempts.specs.declared.Memo.{Memo}
+use Rattle.attempts.specs.declared.Counted.{Counted}
 use Rattle.attempts.specs.declared.Marks.{Marks}
 use Rattle.attempts.specs.declared.Ask.{Ask}
-use Rattle.attempts.specs.declared.Ask.the-variants.{Column, Stage}
+use Rattle.attempts.specs.declared.Ask.the-variants.{Derivative, Jacobian, TimePartial, FirstProbe, SecondProbe, Column, Stage}
 use Rattle.attempts.specs.declared.Stop.{Stop}
 use Rattle.attempts.specs.declared.Ending.the-variants as ending
 use Rattle.attempts.specs.declared.StageOutcome.{StageOutcome}
 use Rattle.attempts.specs.declared.StageOutcome.the-variants.{Asks, Ends, Shows}
 use Rattle.attempts.specs.declared.FactorOutcome.{FactorOutcome}
 use Rattle.attempts.specs.declared.FactorOutcome.the-variants.{Unfactored, Factored, Solved}
-use Rattle.attempts.specs.Marks.{withErrorShown, countingFactorization, countingSolve, noting, counting}
-use Rattle.attempts.specs.Attempt.{Scratch, Stopped, scratch, stopped, onMarks, halt, refuse, askRhs, wanted}
+use Rattle.attempts.specs.declared.Halt.{Halt}
+use Rattle.attempts.specs.declared.Halt.the-variants as halts
+use Rattle.attempts.specs.declared.Moved.{Moved}
+use Rattle.attempts.specs.Marks.{withCaches, withErrorShown, withProbes, noting}
+use Rattle.attempts.specs.Attempt.{Scratch, Stopped, scratch, stopped, onMarks, halt, refuse, ask, askRhs, wanted}
 
 -- n components and s stages, with the lengths of the state and of the work
 pub record Fit (n s state work : ℕ) : Type 0 where
@@ -36,7 +41,7 @@ pub record Answers (g : Setting) (pivots : List ℕ) (ask : Ask) (count : ℕ) :
   pub within : (i : ℕ) → ask ≡ Stage i → (k : ℕ) → k < g .n → getD pivots k 0 < g .n
   pub values : count ≡ wanted (g .n) ask
 
--- ---- the calls that do the arithmetic: they take sizes, time and step, and hand back how the stages stop
+-- ---- the calls that do the arithmetic hand back what they move and how they halt; those of the stages take sizes, time and step
 
 -- a setting with these: the stages read nothing else of it
 abbrev pub settingAt : ℕ → ℕ → Float → Float → Setting
@@ -51,17 +56,73 @@ settingAt n s time step =
       «host_time_partial» = false;
     }
 
--- what is noted and counted where the stages stop
-unfoldable pub stageStop : StageOutcome → Scratch → Stopped
-stageStop (Asks i time) x = askRhs (Stage i) time x
-stageStop (Ends k) x = refuse k x
-stageStop (Shows error) x = halt ending.Shows (onMarks (noting (withErrorShown error)) x)
+-- what is noted and counted where it halts
+unfoldable pub haltStop : Halt → Scratch → Stopped
+haltStop (halts.Derivative time) x = askRhs Derivative time x
+haltStop (halts.Jacobian time) x = ask Jacobian time x
+haltStop (halts.TimePartial time) x = ask TimePartial time x
+haltStop (halts.FirstProbe two first second) x = askRhs FirstProbe first (onMarks (noting (withProbes two first second)) x)
+haltStop (halts.SecondProbe time) x = askRhs SecondProbe time x
+haltStop (halts.Column k time) x = askRhs (Column k) time x
+haltStop (halts.Stage i time) x = askRhs (Stage i) time x
+haltStop (halts.Ends k) x = refuse k x
+haltStop (halts.Shows error) x = halt ending.Shows (onMarks (noting (withErrorShown error)) x)
+
+-- the caches that now hold, and what was counted
+unfoldable pub movedMarks : Moved → Marks → Marks
+movedMarks r m =
+    let c = m .counted in
+    record {
+      memo = withCaches (r .derivative || m .memo .«derivative_valid») (r .differentiation || m .memo .«differentiation_valid») (m .memo);
+      counted =
+          record {
+            attempts = c .attempts;
+            «rhs_evaluations» = c .«rhs_evaluations»;
+            «accepted_steps» = c .«accepted_steps»;
+            «rejected_steps» = c .«rejected_steps»;
+            «jacobian_evaluations» = r .jacobian || c .«jacobian_evaluations»;
+            factorizations = r .factorization || c .factorizations;
+            «linear_solves» = r .solve || c .«linear_solves»;
+          };
+    }
+
+-- the same with the halt
+unfoldable pub movedStop : Moved → Scratch → Stopped
+movedStop r x = haltStop (r .halt) (onMarks (movedMarks r) x)
+
+-- what the matrix and the stages move: no cache, and no Jacobian
+unfoldable pub movedBy : Bool → Bool → Halt → Moved
+movedBy factorization solve h =
+    record {
+      derivative = false;
+      differentiation = false;
+      jacobian = false;
+      factorization = factorization;
+      solve = solve;
+      halt = h;
+    }
+
+-- the stages' outcome as a halt, and what is noted and counted there
+unfoldable pub stageHalt : StageOutcome → Halt
+stageHalt (Asks i time) = halts.Stage i time
+stageHalt (Ends k) = halts.Ends k
+stageHalt (Shows error) = halts.Shows error
+
+abbrev pub stageStop : StageOutcome → Scratch → Stopped
+stageStop r x = haltStop (stageHalt r) x
 
 -- the same from the matrix on
-unfoldable pub factorStop : FactorOutcome → Scratch → Stopped
-factorStop (Unfactored r) x = stageStop r x
-factorStop (Factored r) x = stageStop r (onMarks (counting countingFactorization) x)
-factorStop (Solved r) x = stageStop r (onMarks (counting countingSolve) (onMarks (counting countingFactorization) x))
+unfoldable pub factorMoved : FactorOutcome → Moved
+factorMoved (Unfactored r) = movedBy false false (stageHalt r)
+factorMoved (Factored r) = movedBy true false (stageHalt r)
+factorMoved (Solved r) = movedBy true true (stageHalt r)
+
+abbrev pub factorStop : FactorOutcome → Scratch → Stopped
+factorStop r x = movedStop (factorMoved r) x
+
+-- a memo with what the call has counted so far
+abbrev pub marked : Memo → Counted → Marks
+marked memo c = record { memo = memo; counted = c }
 
 -- r is how f stops with these marks, whatever the memory, which it leaves
 abbrev pub Stops : Stop → Marks → (Scratch → Stopped) → Type 0

@@ -1,7 +1,7 @@
 // The stages of an open attempt, between two requests. The names and the order of the tests are those
 // of rosenbrock.rs, whose attempt asks its closures where this one stops.
 ghost use mathlib.Core.Path.{_≡_};
-ghost use mathlib.Core.Bool.{_&&_};
+ghost use mathlib.Core.Bool.{_&&_, _||_};
 ghost use mathlib.Core.List.{List};
 ghost use Prim.Native.Nat.{ℕ, _+_, _*_, _≤_, _<_};
 ghost use lib.Dec.{eqb};
@@ -15,7 +15,7 @@ ghost use Rattle.stages.specs.Layout.{Stage, PivotRows};
 ghost use Rattle.stages.specs.Memory.{component};
 ghost use Rattle.attempts.specs.Marks.{countingFactorization, countingSolve, counting};
 ghost use Rattle.attempts.specs.Attempt.{Scratch, given, scratch, stopped, onMarks, refuse, ask, askRhs, show, finish, askStage, openStage, nextStage, solveStage, firstStage, factor};
-ghost use Rattle.attempts.specs.Calls.{Fit, Sizes, Stops, settingAt, stageStop, factorStop};
+ghost use Rattle.attempts.specs.Calls.{Fit, Stops, settingAt, haltStop, movedStop, movedBy, stageHalt, stageStop, factorMoved, factorStop};
 use linear::Factorization;
 use time_difference::TimeDifferencePolicy;
 
@@ -103,10 +103,36 @@ pub enum FactorOutcome {
     Solved(StageOutcome),
 }
 
+// How an open attempt halts, in one: what it asks for with the request's time (for the first time probe
+// whether there are two, and both times), the number of the refusal that closes it, or whether the
+// step that it shows has an error. Few numbers, and no marks.
+pub enum Halt {
+    Derivative(f64),
+    Jacobian(f64),
+    TimePartial(f64),
+    FirstProbe(bool, f64, f64),
+    SecondProbe(f64),
+    Column(usize, f64),
+    Stage(usize, f64),
+    Ends(u32),
+    Shows(bool),
+}
+
+// What an open attempt moves: the caches that now hold, what it counted besides the request, and how it
+// halts. It is what the calls that do the arithmetic hand back; the marks are set from it at the end.
+pub struct Moved {
+    pub derivative: bool,
+    pub differentiation: bool,
+    pub jacobian: bool,
+    pub factorization: bool,
+    pub solve: bool,
+    pub halt: Halt,
+}
+
 // ---- stopping
 
 // A refusal that closes the attempt.
-pub fn refuse(marks: Marks, number: u32) -> Stop
+fn refuse(marks: Marks, number: u32) -> Stop
     ensures { λ r. ⌜ Stops r marks (refuse number) ⌝ }
 {
     Stop {
@@ -116,7 +142,7 @@ pub fn refuse(marks: Marks, number: u32) -> Stop
 }
 
 // A request: its time is noted.
-pub fn request(mut marks: Marks, a: Ask, time: f64) -> Stop
+fn request(mut marks: Marks, a: Ask, time: f64) -> Stop
     ensures { λ r. ⌜ Stops r marks (ask a time) ⌝ }
 {
     marks.memo.request_time = time;
@@ -127,11 +153,110 @@ pub fn request(mut marks: Marks, a: Ask, time: f64) -> Stop
 }
 
 // A request for a derivative is counted too.
-pub fn ask_rhs(mut marks: Marks, a: Ask, time: f64) -> Stop
+fn ask_rhs(mut marks: Marks, a: Ask, time: f64) -> Stop
     ensures { λ r. ⌜ Stops r marks (askRhs a time) ⌝ }
 {
     marks.counted.rhs_evaluations = true;
     request(marks, a, time)
+}
+
+// The step is shown, with its error or without.
+fn show(mut marks: Marks, error: bool) -> Stop
+    ensures { λ r. ⌜ Stops r marks (haltStop (Halt.Shows error)) ⌝ }
+{
+    marks.memo.error_shown = error;
+    Stop {
+        marks,
+        ending: Ending::Shows,
+    }
+}
+
+// The first probe of the time partial is asked for, and both times are noted.
+fn ask_first_probe(mut marks: Marks, two: bool, first: f64, second: f64) -> Stop
+    ensures { λ r. ⌜ Stops r marks (haltStop (Halt.FirstProbe two first second)) ⌝ }
+{
+    marks.memo.two_probes = two;
+    marks.memo.first_probe = first;
+    marks.memo.second_probe = second;
+    ask_rhs(marks, Ask::FirstProbe, first)
+}
+
+fn halt_stop(marks: Marks, halt: Halt) -> Stop
+    ensures { λ r. ⌜ Stops r marks (haltStop halt) ⌝ }
+{
+    match halt {
+        Halt::Derivative(time) => ask_rhs(marks, Ask::Derivative, time),
+        Halt::Jacobian(time) => request(marks, Ask::Jacobian, time),
+        Halt::TimePartial(time) => request(marks, Ask::TimePartial, time),
+        Halt::FirstProbe(two, first, second) => ask_first_probe(marks, two, first, second),
+        Halt::SecondProbe(time) => ask_rhs(marks, Ask::SecondProbe, time),
+        Halt::Column(k, time) => ask_rhs(marks, Ask::Column(k), time),
+        Halt::Stage(i, time) => ask_rhs(marks, Ask::Stage(i), time),
+        Halt::Ends(number) => refuse(marks, number),
+        Halt::Shows(error) => show(marks, error),
+    }
+}
+
+fn either(a: bool, b: bool) -> bool
+    ensures { λ r. ⌜ r ≡ (a || b) ⌝ }
+{
+    if a {
+        return true;
+    }
+    b
+}
+
+// How it stops with these marks: what was moved is noted and counted.
+pub fn stop_by(mut marks: Marks, moved: Moved) -> Stop
+    ensures { λ r. ⌜ Stops r marks (movedStop moved) ⌝ }
+{
+    let halt = moved.halt;
+    let derivative_valid = either(moved.derivative, marks.memo.derivative_valid);
+    let differentiation_valid = either(moved.differentiation, marks.memo.differentiation_valid);
+    let jacobian_evaluations = either(moved.jacobian, marks.counted.jacobian_evaluations);
+    let factorizations = either(moved.factorization, marks.counted.factorizations);
+    let linear_solves = either(moved.solve, marks.counted.linear_solves);
+    marks.memo.derivative_valid = derivative_valid;
+    marks.memo.differentiation_valid = differentiation_valid;
+    marks.counted.jacobian_evaluations = jacobian_evaluations;
+    marks.counted.factorizations = factorizations;
+    marks.counted.linear_solves = linear_solves;
+    halt_stop(marks, halt)
+}
+
+// What the matrix and the stages move.
+pub fn moved_by(factorization: bool, solve: bool, halt: Halt) -> Moved
+    ensures { λ r. ⌜ r ≡ movedBy factorization solve halt ⌝ }
+{
+    Moved {
+        derivative: false,
+        differentiation: false,
+        jacobian: false,
+        factorization,
+        solve,
+        halt,
+    }
+}
+
+// Each number by itself: a copy of the whole would wait for the stores of its parts.
+pub fn stage_halt(outcome: StageOutcome) -> Halt
+    ensures { λ r. ⌜ r ≡ stageHalt outcome ⌝ }
+{
+    match outcome {
+        StageOutcome::Asks(i, time) => Halt::Stage(i, time),
+        StageOutcome::Ends(number) => Halt::Ends(number),
+        StageOutcome::Shows(error) => Halt::Shows(error),
+    }
+}
+
+pub fn factor_moved(outcome: FactorOutcome) -> Moved
+    ensures { λ r. ⌜ r ≡ factorMoved outcome ⌝ }
+{
+    match outcome {
+        FactorOutcome::Unfactored(stages) => moved_by(false, false, stage_halt(stages)),
+        FactorOutcome::Factored(stages) => moved_by(true, false, stage_halt(stages)),
+        FactorOutcome::Solved(stages) => moved_by(true, true, stage_halt(stages)),
+    }
 }
 
 // Whether the n elements of the work from `at` on are finite.
@@ -146,43 +271,13 @@ pub fn finite_at(work: &[f64], at: usize, n: usize) -> bool
 // ---- the stages
 
 // Only the embedded estimator with btilde has a component error.
-fn shows_error(file: &[u8]) -> bool
+pub fn shows_error(file: &[u8]) -> bool
     ensures { λ r. ⌜ r ≡ (eqb (tableauOf (now (file .entry)) .counts .estimator) 0 && present (tableauOf (now (file .entry)) .counts)) ⌝ }
 {
     if tableau::estimator(file) == 0 {
         return tableau::btilde_present(file);
     }
     false
-}
-
-// The step is shown.
-pub fn show(file: &[u8], mut marks: Marks) -> Stop
-    ensures { λ r. ⌜ ((g : Setting) (state : List Float) → Stops r marks (show (given g (tableauOf (now (file .entry))) state))) ⌝ }
-{
-    let shown = shows_error(file);
-    marks.memo.error_shown = shown;
-    Stop {
-        marks,
-        ending: Ending::Shows,
-    }
-}
-
-// The stages stop: the request is noted and counted, or the refusal closes the attempt, or the step is
-// shown.
-fn stage_stop(mut marks: Marks, outcome: StageOutcome) -> Stop
-    ensures { λ r. ⌜ Stops r marks (stageStop outcome) ⌝ }
-{
-    match outcome {
-        StageOutcome::Asks(i, time) => ask_rhs(marks, Ask::Stage(i), time),
-        StageOutcome::Ends(number) => refuse(marks, number),
-        StageOutcome::Shows(error) => {
-            marks.memo.error_shown = error;
-            Stop {
-                marks,
-                ending: Ending::Shows,
-            }
-        }
-    }
 }
 
 fn finish(file: &[u8], work: &[f64], n: usize) -> StageOutcome
@@ -254,7 +349,7 @@ fn next_stage(
 }
 
 // Stage i's derivative is there: solve, add up, and go on.
-fn stage_outcome(
+pub fn solve_stage(
     file: &[u8],
     state: &[f64],
     work: &mut [f64],
@@ -275,25 +370,6 @@ fn stage_outcome(
     }
     stages::add_stage(work, file, n, s, i);
     next_stage(file, state, work, n, s, time, step, i + 1)
-}
-
-// The same, with what is noted and counted.
-pub fn solve_stage(
-    g: Setting,
-    file: &[u8],
-    state: &[f64],
-    work: &mut [f64],
-    pivots: &[usize],
-    mut marks: Marks,
-    i: usize,
-) -> Stop
-    requires { ⌜ Sizes g (length (now state)) (length (now work)) × Stage (g .n) (g .s) i × PivotRows (g .n) (now pivots) ⌝ }
-    ensures { λ r. ⌜ stopped r (now (work .exit)) (now (pivots .entry))
-        ≡ solveStage (given g (tableauOf (now (file .entry))) (now (state .entry))) i (scratch marks (now (work .entry)) (now (pivots .entry))) ⌝ }
-{
-    let outcome = stage_outcome(file, state, work, pivots, g.n, g.s, g.time, g.step, i);
-    marks.counted.linear_solves = true;
-    stage_stop(marks, outcome)
 }
 
 // Copies n elements of the work to a later place.
@@ -331,7 +407,7 @@ fn first_stage(
     let c = tableau::c(file, 0);
     if c == 0.0 {
         copy_within(work, 8 * n + 2 * (n * n) + s * n, 3 * n, n);
-        let outcome = stage_outcome(file, state, work, pivots, n, s, time, step, 0);
+        let outcome = solve_stage(file, state, work, pivots, n, s, time, step, 0);
         return FactorOutcome::Solved(outcome);
     }
     FactorOutcome::Factored(ask_stage(time, step, c, 0))
@@ -339,7 +415,7 @@ fn first_stage(
 
 // ---- the matrix, its factors, then the first stage
 
-fn factor_outcome(
+pub fn factor(
     file: &[u8],
     state: &[f64],
     work: &mut [f64],
@@ -363,35 +439,6 @@ fn factor_outcome(
         }
         Factorization::Refused(_) => {
             return FactorOutcome::Factored(StageOutcome::Ends(stepping::SINGULAR));
-        }
-    }
-}
-
-// The same, with what is noted and counted.
-pub fn factor(
-    g: Setting,
-    file: &[u8],
-    state: &[f64],
-    work: &mut [f64],
-    pivots: &mut [usize],
-    mut marks: Marks,
-) -> Stop
-    requires { ⌜ Sizes g (length (now state)) (length (now work)) × (length (now pivots) ≡ g .n) ⌝ }
-    ensures { λ r. ⌜ stopped r (now (work .exit)) (now (pivots .exit))
-        ≡ factor (given g (tableauOf (now (file .entry))) (now (state .entry))) (scratch marks (now (work .entry)) (now (pivots .entry))) ⌝ }
-{
-    match factor_outcome(file, state, work, pivots, g.n, g.s, g.time, g.step) {
-        FactorOutcome::Unfactored(outcome) => {
-            return stage_stop(marks, outcome);
-        }
-        FactorOutcome::Factored(outcome) => {
-            marks.counted.factorizations = true;
-            return stage_stop(marks, outcome);
-        }
-        FactorOutcome::Solved(outcome) => {
-            marks.counted.factorizations = true;
-            marks.counted.linear_solves = true;
-            return stage_stop(marks, outcome);
         }
     }
 }

@@ -9,12 +9,15 @@ ghost use lib.ListN.{length};
 ghost use Rattle.tableau.specs.Tableau.{Tableau};
 ghost use Rattle.tableau.specs.File.{tableauOf};
 ghost use Rattle.stages.specs.Layout.{Room, Stage, PivotRows};
-ghost use Rattle.attempts.specs.Attempt.{Given, given, scratch, stopped, partialDone, combine, askFirstProbe, askPartial, jacobianDone, openColumn, nextColumn, askJacobian, differentiate, begun, evaluate, start, resume};
-ghost use Rattle.attempts.specs.Calls.{Sizes, Answers, Stops};
+ghost use Rattle.attempts.specs.Attempt.{Given, Scratch, given, scratch, partialDone, combine, askFirstProbe, askPartial, jacobianDone, openColumn, nextColumn, askJacobian, differentiate, begun, evaluate, start, resume};
+ghost use Rattle.attempts.specs.Calls.{Sizes, Answers, haltStop, movedStop, marked};
+ghost use Rattle.attempts.specs.declared.Counted.{Counted};
+ghost use Rattle.attempts.specs.declared.Marks.{Marks};
 use attempts::Ask;
-use attempts::Marks;
+use attempts::Halt;
+use attempts::Memo;
+use attempts::Moved;
 use attempts::Setting;
-use attempts::Stop;
 use time_difference::Probes;
 
 // ---- the time partial, then the matrix
@@ -25,18 +28,19 @@ fn partial_done(
     state: &[f64],
     work: &mut [f64],
     pivots: &mut [usize],
-    mut marks: Marks,
-) -> Stop
+) -> Moved
     requires { ⌜ Sizes g (length (now state)) (length (now work)) × (length (now pivots) ≡ g .n) ⌝ }
-    ensures { λ r. ⌜ stopped r (now (work .exit)) (now (pivots .exit))
-        ≡ partialDone (given g (tableauOf (now (file .entry))) (now (state .entry))) (scratch marks (now (work .entry)) (now (pivots .entry))) ⌝ }
+    ensures { λ r. ⌜ ((m : Marks) → movedStop r (scratch m (now (work .exit)) (now (pivots .exit)))
+        ≡ partialDone (given g (tableauOf (now (file .entry))) (now (state .entry))) (scratch m (now (work .entry)) (now (pivots .entry)))) ⌝ }
 {
     let n = g.n;
     if !attempts::finite_at(work, 4 * n, n) {
-        return attempts::refuse(marks, stepping::NON_FINITE);
+        return attempts::moved_by(false, false, Halt::Ends(stepping::NON_FINITE));
     }
-    marks.memo.differentiation_valid = true;
-    attempts::factor(g, file, state, work, pivots, marks)
+    let outcome = attempts::factor(file, state, work, pivots, n, g.s, g.time, g.step);
+    let mut moved = attempts::factor_moved(outcome);
+    moved.differentiation = true;
+    moved
 }
 
 // The time partial from the probes.
@@ -46,124 +50,117 @@ fn combine(
     state: &[f64],
     work: &mut [f64],
     pivots: &mut [usize],
-    marks: Marks,
-) -> Stop
+    memo: Memo,
+) -> Moved
     requires { ⌜ Sizes g (length (now state)) (length (now work)) × (length (now pivots) ≡ g .n) ⌝ }
-    ensures { λ r. ⌜ stopped r (now (work .exit)) (now (pivots .exit))
-        ≡ combine (given g (tableauOf (now (file .entry))) (now (state .entry))) (scratch marks (now (work .entry)) (now (pivots .entry))) ⌝ }
+    ensures { λ r. ⌜ ((c : Counted) → movedStop r (scratch (marked memo c) (now (work .exit)) (now (pivots .exit)))
+        ≡ combine (given g (tableauOf (now (file .entry))) (now (state .entry))) (scratch (marked memo c) (now (work .entry)) (now (pivots .entry)))) ⌝ }
 {
     let n = g.n;
-    let memo = marks.memo;
     let first = memo.first_probe - g.time;
     let second = memo.second_probe - g.time;
     differentiation::time_partial(work, n, memo.two_probes, first, second);
-    partial_done(g, file, state, work, pivots, marks)
+    partial_done(g, file, state, work, pivots)
 }
 
 // The first probe of the time partial is asked for, or the policy refuses.
-fn ask_first_probe(probes: Probes, mut marks: Marks) -> Stop
-    ensures { λ r. ⌜ ((g : Given) → Stops r marks (askFirstProbe g probes)) ⌝ }
+fn ask_first_probe(probes: Probes) -> Halt
+    ensures { λ r. ⌜ ((g : Given) (x : Scratch) → haltStop r x ≡ askFirstProbe g probes x) ⌝ }
 {
     match probes {
-        Probes::Refused(number) => attempts::refuse(marks, number),
-        Probes::One(first) => {
-            marks.memo.two_probes = false;
-            marks.memo.first_probe = first;
-            marks.memo.second_probe = 0.0;
-            attempts::ask_rhs(marks, Ask::FirstProbe, first)
-        }
-        Probes::Two(first, second) => {
-            marks.memo.two_probes = true;
-            marks.memo.first_probe = first;
-            marks.memo.second_probe = second;
-            attempts::ask_rhs(marks, Ask::FirstProbe, first)
-        }
+        Probes::Refused(number) => Halt::Ends(number),
+        Probes::One(first) => Halt::FirstProbe(false, first, 0.0),
+        Probes::Two(first, second) => Halt::FirstProbe(true, first, second),
     }
 }
 
 // The host's time partial, or the first of its probes.
-fn ask_partial(g: Setting, marks: Marks) -> Stop
-    ensures { λ r. ⌜ ((t : Tableau) (state : List Float) → Stops r marks (askPartial (given g t state))) ⌝ }
+fn ask_partial(g: Setting) -> Halt
+    ensures { λ r. ⌜ ((t : Tableau) (state : List Float) (x : Scratch) → haltStop r x ≡ askPartial (given g t state) x) ⌝ }
 {
     if g.host_time_partial {
-        return attempts::request(marks, Ask::TimePartial, g.time);
+        return Halt::TimePartial(g.time);
     }
     let policy = g.policy;
-    ask_first_probe(policy.probes(g.time, g.step), marks)
+    ask_first_probe(policy.probes(g.time, g.step))
 }
 
 // ---- the Jacobian, then the time partial
 
-fn jacobian_done(g: Setting, work: &[f64], marks: Marks) -> Stop
+fn jacobian_done(g: Setting, work: &[f64]) -> Halt
     requires { ⌜ Room (g .n) (g .s) (length (now work)) ⌝ }
-    ensures { λ r. ⌜ ((t : Tableau) (state : List Float) (p : List ℕ) → stopped r (now (work .entry)) p
-        ≡ jacobianDone (given g t state) (scratch marks (now (work .entry)) p)) ⌝ }
+    ensures { λ r. ⌜ ((t : Tableau) (state : List Float) (m : Marks) (p : List ℕ) → haltStop r (scratch m (now (work .entry)) p)
+        ≡ jacobianDone (given g t state) (scratch m (now (work .entry)) p)) ⌝ }
 {
     let n = g.n;
     if !attempts::finite_at(work, 8 * n, n * n) {
-        return attempts::refuse(marks, stepping::NON_FINITE);
+        return Halt::Ends(stepping::NON_FINITE);
     }
-    ask_partial(g, marks)
+    ask_partial(g)
 }
 
 // Column k of the probed Jacobian: the derivative at the probe's state.
-fn open_column(g: Setting, state: &[f64], work: &mut [f64], marks: Marks, k: usize) -> Stop
+fn open_column(g: Setting, state: &[f64], work: &mut [f64], k: usize) -> Halt
     requires { ⌜ Sizes g (length (now state)) (length (now work)) × (k < g .n) ⌝ }
-    ensures { λ r. ⌜ ((t : Tableau) (p : List ℕ) → stopped r (now (work .exit)) p
-        ≡ openColumn (given g t (now (state .entry))) k (scratch marks (now (work .entry)) p)) ⌝ }
+    ensures { λ r. ⌜ ((t : Tableau) (m : Marks) (p : List ℕ) → haltStop r (scratch m (now (work .exit)) p)
+        ≡ openColumn (given g t (now (state .entry))) k (scratch m (now (work .entry)) p)) ⌝ }
 {
     let n = g.n;
     let y = state[k];
     differentiation::probe_state(work, state, n, k);
     if !attempts::finite_at(work, 5 * n, n) {
-        return attempts::refuse(marks, stepping::NON_FINITE);
+        return Halt::Ends(stepping::NON_FINITE);
     }
     if differentiation::rise(y) == 0.0 {
-        return attempts::refuse(marks, stepping::TIME_RESOLUTION);
+        return Halt::Ends(stepping::TIME_RESOLUTION);
     }
-    attempts::ask_rhs(marks, Ask::Column(k), g.time)
+    Halt::Column(k, g.time)
 }
 
-fn next_column(g: Setting, state: &[f64], work: &mut [f64], marks: Marks, k: usize) -> Stop
+fn next_column(g: Setting, state: &[f64], work: &mut [f64], k: usize) -> Halt
     requires { ⌜ Sizes g (length (now state)) (length (now work)) × (k ≤ g .n) ⌝ }
-    ensures { λ r. ⌜ ((t : Tableau) (p : List ℕ) → stopped r (now (work .exit)) p
-        ≡ nextColumn (given g t (now (state .entry))) k (scratch marks (now (work .entry)) p)) ⌝ }
+    ensures { λ r. ⌜ ((t : Tableau) (m : Marks) (p : List ℕ) → haltStop r (scratch m (now (work .exit)) p)
+        ≡ nextColumn (given g t (now (state .entry))) k (scratch m (now (work .entry)) p)) ⌝ }
 {
     if k == g.n {
-        return jacobian_done(g, work, marks);
+        return jacobian_done(g, work);
     }
-    open_column(g, state, work, marks, k)
+    open_column(g, state, work, k)
 }
 
 // The host's Jacobian, or the first of its columns.
-fn ask_jacobian(g: Setting, state: &[f64], work: &mut [f64], marks: Marks) -> Stop
+fn ask_jacobian(g: Setting, state: &[f64], work: &mut [f64]) -> Halt
     requires { ⌜ Sizes g (length (now state)) (length (now work)) ⌝ }
-    ensures { λ r. ⌜ ((t : Tableau) (p : List ℕ) → stopped r (now (work .exit)) p
-        ≡ askJacobian (given g t (now (state .entry))) (scratch marks (now (work .entry)) p)) ⌝ }
+    ensures { λ r. ⌜ ((t : Tableau) (m : Marks) (p : List ℕ) → haltStop r (scratch m (now (work .exit)) p)
+        ≡ askJacobian (given g t (now (state .entry))) (scratch m (now (work .entry)) p)) ⌝ }
 {
     if g.host_jacobian {
-        return attempts::request(marks, Ask::Jacobian, g.time);
+        return Halt::Jacobian(g.time);
     }
-    next_column(g, state, work, marks, 0)
+    next_column(g, state, work, 0)
 }
 
+// valid: the Jacobian and the time partial are cached.
 fn differentiate(
     g: Setting,
     file: &[u8],
     state: &[f64],
     work: &mut [f64],
     pivots: &mut [usize],
-    mut marks: Marks,
-) -> Stop
+    valid: bool,
+) -> Moved
     requires { ⌜ Sizes g (length (now state)) (length (now work)) × (length (now pivots) ≡ g .n) ⌝ }
-    ensures { λ r. ⌜ stopped r (now (work .exit)) (now (pivots .exit))
-        ≡ differentiate (given g (tableauOf (now (file .entry))) (now (state .entry))) (scratch marks (now (work .entry)) (now (pivots .entry))) ⌝ }
+    ensures { λ r. ⌜ ((m : Marks) → m .memo .«differentiation_valid» ≡ valid → movedStop r (scratch m (now (work .exit)) (now (pivots .exit)))
+        ≡ differentiate (given g (tableauOf (now (file .entry))) (now (state .entry))) (scratch m (now (work .entry)) (now (pivots .entry)))) ⌝ }
 {
-    if marks.memo.differentiation_valid {
-        return attempts::factor(g, file, state, work, pivots, marks);
+    if valid {
+        let outcome = attempts::factor(file, state, work, pivots, g.n, g.s, g.time, g.step);
+        return attempts::factor_moved(outcome);
     }
-    marks.counted.jacobian_evaluations = true;
-    ask_jacobian(g, state, work, marks)
+    let halt = ask_jacobian(g, state, work);
+    let mut moved = attempts::moved_by(false, false, halt);
+    moved.jacobian = true;
+    moved
 }
 
 // ---- the start
@@ -185,16 +182,16 @@ fn evaluate(
     state: &[f64],
     work: &mut [f64],
     pivots: &mut [usize],
-    marks: Marks,
-) -> Stop
+    memo: Memo,
+) -> Moved
     requires { ⌜ Sizes g (length (now state)) (length (now work)) × (length (now pivots) ≡ g .n) ⌝ }
-    ensures { λ r. ⌜ stopped r (now (work .exit)) (now (pivots .exit))
-        ≡ evaluate (given g (tableauOf (now (file .entry))) (now (state .entry))) (scratch marks (now (work .entry)) (now (pivots .entry))) ⌝ }
+    ensures { λ r. ⌜ ((c : Counted) → movedStop r (scratch (marked memo c) (now (work .exit)) (now (pivots .exit)))
+        ≡ evaluate (given g (tableauOf (now (file .entry))) (now (state .entry))) (scratch (marked memo c) (now (work .entry)) (now (pivots .entry)))) ⌝ }
 {
-    if marks.memo.derivative_valid {
-        return differentiate(g, file, state, work, pivots, marks);
+    if memo.derivative_valid {
+        return differentiate(g, file, state, work, pivots, memo.differentiation_valid);
     }
-    attempts::ask_rhs(marks, Ask::Derivative, g.time)
+    attempts::moved_by(false, false, Halt::Derivative(g.time))
 }
 
 // Opens an attempt.
@@ -204,17 +201,17 @@ pub fn start(
     state: &[f64],
     work: &mut [f64],
     pivots: &mut [usize],
-    marks: Marks,
-) -> Stop
+    memo: Memo,
+) -> Moved
     requires { ⌜ Sizes g (length (now state)) (length (now work)) × (length (now pivots) ≡ g .n) ⌝ }
-    ensures { λ r. ⌜ stopped r (now (work .exit)) (now (pivots .exit))
-        ≡ start (given g (tableauOf (now (file .entry))) (now (state .entry))) (scratch marks (now (work .entry)) (now (pivots .entry))) ⌝ }
+    ensures { λ r. ⌜ ((c : Counted) → movedStop r (scratch (marked memo c) (now (work .exit)) (now (pivots .exit)))
+        ≡ start (given g (tableauOf (now (file .entry))) (now (state .entry))) (scratch (marked memo c) (now (work .entry)) (now (pivots .entry)))) ⌝ }
 {
     begin(g, state, work);
     if g.step == 0.0 {
-        return attempts::show(file, marks);
+        return attempts::moved_by(false, false, Halt::Shows(attempts::shows_error(file)));
     }
-    evaluate(g, file, state, work, pivots, marks)
+    evaluate(g, file, state, work, pivots, memo)
 }
 
 // ---- what a supply does: the values are written, then tested
@@ -225,19 +222,20 @@ fn resume_derivative(
     state: &[f64],
     work: &mut [f64],
     pivots: &mut [usize],
-    mut marks: Marks,
+    memo: Memo,
     values: &[f64],
-) -> Stop
+) -> Moved
     requires { ⌜ Sizes g (length (now state)) (length (now work)) × (length (now pivots) ≡ g .n) × (length (now values) ≡ g .n) ⌝ }
-    ensures { λ r. ⌜ stopped r (now (work .exit)) (now (pivots .exit))
-        ≡ resume (given g (tableauOf (now (file .entry))) (now (state .entry))) Ask.Derivative (now (values .entry)) (scratch marks (now (work .entry)) (now (pivots .entry))) ⌝ }
+    ensures { λ r. ⌜ ((c : Counted) → movedStop r (scratch (marked memo c) (now (work .exit)) (now (pivots .exit)))
+        ≡ resume (given g (tableauOf (now (file .entry))) (now (state .entry))) Ask.Derivative (now (values .entry)) (scratch (marked memo c) (now (work .entry)) (now (pivots .entry)))) ⌝ }
 {
     vector::put(work, 3 * g.n, values);
     if !vector::all_finite(values) {
-        return attempts::refuse(marks, stepping::NON_FINITE);
+        return attempts::moved_by(false, false, Halt::Ends(stepping::NON_FINITE));
     }
-    marks.memo.derivative_valid = true;
-    differentiate(g, file, state, work, pivots, marks)
+    let mut moved = differentiate(g, file, state, work, pivots, memo.differentiation_valid);
+    moved.derivative = true;
+    moved
 }
 
 fn resume_first_probe(
@@ -246,21 +244,21 @@ fn resume_first_probe(
     state: &[f64],
     work: &mut [f64],
     pivots: &mut [usize],
-    marks: Marks,
+    memo: Memo,
     values: &[f64],
-) -> Stop
+) -> Moved
     requires { ⌜ Sizes g (length (now state)) (length (now work)) × (length (now pivots) ≡ g .n) × (length (now values) ≡ g .n) ⌝ }
-    ensures { λ r. ⌜ stopped r (now (work .exit)) (now (pivots .exit))
-        ≡ resume (given g (tableauOf (now (file .entry))) (now (state .entry))) Ask.FirstProbe (now (values .entry)) (scratch marks (now (work .entry)) (now (pivots .entry))) ⌝ }
+    ensures { λ r. ⌜ ((c : Counted) → movedStop r (scratch (marked memo c) (now (work .exit)) (now (pivots .exit)))
+        ≡ resume (given g (tableauOf (now (file .entry))) (now (state .entry))) Ask.FirstProbe (now (values .entry)) (scratch (marked memo c) (now (work .entry)) (now (pivots .entry)))) ⌝ }
 {
     vector::put(work, 4 * g.n, values);
     if !vector::all_finite(values) {
-        return attempts::refuse(marks, stepping::NON_FINITE);
+        return attempts::moved_by(false, false, Halt::Ends(stepping::NON_FINITE));
     }
-    if marks.memo.two_probes {
-        return attempts::ask_rhs(marks, Ask::SecondProbe, marks.memo.second_probe);
+    if memo.two_probes {
+        return attempts::moved_by(false, false, Halt::SecondProbe(memo.second_probe));
     }
-    combine(g, file, state, work, pivots, marks)
+    combine(g, file, state, work, pivots, memo)
 }
 
 fn resume_second_probe(
@@ -269,40 +267,33 @@ fn resume_second_probe(
     state: &[f64],
     work: &mut [f64],
     pivots: &mut [usize],
-    marks: Marks,
+    memo: Memo,
     values: &[f64],
-) -> Stop
+) -> Moved
     requires { ⌜ Sizes g (length (now state)) (length (now work)) × (length (now pivots) ≡ g .n) × (length (now values) ≡ g .n) ⌝ }
-    ensures { λ r. ⌜ stopped r (now (work .exit)) (now (pivots .exit))
-        ≡ resume (given g (tableauOf (now (file .entry))) (now (state .entry))) Ask.SecondProbe (now (values .entry)) (scratch marks (now (work .entry)) (now (pivots .entry))) ⌝ }
+    ensures { λ r. ⌜ ((c : Counted) → movedStop r (scratch (marked memo c) (now (work .exit)) (now (pivots .exit)))
+        ≡ resume (given g (tableauOf (now (file .entry))) (now (state .entry))) Ask.SecondProbe (now (values .entry)) (scratch (marked memo c) (now (work .entry)) (now (pivots .entry)))) ⌝ }
 {
     vector::put(work, 6 * g.n, values);
     if !vector::all_finite(values) {
-        return attempts::refuse(marks, stepping::NON_FINITE);
+        return attempts::moved_by(false, false, Halt::Ends(stepping::NON_FINITE));
     }
-    combine(g, file, state, work, pivots, marks)
+    combine(g, file, state, work, pivots, memo)
 }
 
-fn resume_column(
-    g: Setting,
-    state: &[f64],
-    work: &mut [f64],
-    marks: Marks,
-    k: usize,
-    values: &[f64],
-) -> Stop
+fn resume_column(g: Setting, state: &[f64], work: &mut [f64], k: usize, values: &[f64]) -> Halt
     requires { ⌜ Sizes g (length (now state)) (length (now work)) × (k < g .n) × (length (now values) ≡ g .n) ⌝ }
-    ensures { λ r. ⌜ ((t : Tableau) (p : List ℕ) → stopped r (now (work .exit)) p
-        ≡ resume (given g t (now (state .entry))) (Ask.Column k) (now (values .entry)) (scratch marks (now (work .entry)) p)) ⌝ }
+    ensures { λ r. ⌜ ((t : Tableau) (m : Marks) (p : List ℕ) → haltStop r (scratch m (now (work .exit)) p)
+        ≡ resume (given g t (now (state .entry))) (Ask.Column k) (now (values .entry)) (scratch m (now (work .entry)) p)) ⌝ }
 {
     let n = g.n;
     let y = state[k];
     vector::put(work, 6 * n, values);
     if !vector::all_finite(values) {
-        return attempts::refuse(marks, stepping::NON_FINITE);
+        return Halt::Ends(stepping::NON_FINITE);
     }
     differentiation::column(work, n, k, differentiation::rise(y));
-    next_column(g, state, work, marks, k + 1)
+    next_column(g, state, work, k + 1)
 }
 
 fn resume_stage(
@@ -311,21 +302,21 @@ fn resume_stage(
     state: &[f64],
     work: &mut [f64],
     pivots: &[usize],
-    marks: Marks,
     i: usize,
     values: &[f64],
-) -> Stop
+) -> Moved
     requires { ⌜ Sizes g (length (now state)) (length (now work)) × Stage (g .n) (g .s) i × PivotRows (g .n) (now pivots) × (length (now values) ≡ g .n) ⌝ }
-    ensures { λ r. ⌜ stopped r (now (work .exit)) (now (pivots .entry))
-        ≡ resume (given g (tableauOf (now (file .entry))) (now (state .entry))) (Ask.Stage i) (now (values .entry)) (scratch marks (now (work .entry)) (now (pivots .entry))) ⌝ }
+    ensures { λ r. ⌜ ((m : Marks) → movedStop r (scratch m (now (work .exit)) (now (pivots .entry)))
+        ≡ resume (given g (tableauOf (now (file .entry))) (now (state .entry))) (Ask.Stage i) (now (values .entry)) (scratch m (now (work .entry)) (now (pivots .entry)))) ⌝ }
 {
     let n = g.n;
     let s = g.s;
     vector::put(work, 8 * n + 2 * (n * n) + s * n + i * n, values);
     if !vector::all_finite(values) {
-        return attempts::refuse(marks, stepping::NON_FINITE);
+        return attempts::moved_by(false, false, Halt::Ends(stepping::NON_FINITE));
     }
-    attempts::solve_stage(g, file, state, work, pivots, marks, i)
+    let outcome = attempts::solve_stage(file, state, work, pivots, n, s, g.time, g.step, i);
+    attempts::moved_by(false, true, attempts::stage_halt(outcome))
 }
 
 // Goes on with what was asked for.
@@ -335,38 +326,38 @@ pub fn resume(
     state: &[f64],
     work: &mut [f64],
     pivots: &mut [usize],
-    marks: Marks,
+    memo: Memo,
     ask: Ask,
     values: &[f64],
-) -> Stop
+) -> Moved
     requires { ⌜ Sizes g (length (now state)) (length (now work)) × (length (now pivots) ≡ g .n) × Answers g (now pivots) ask (length (now values)) ⌝ }
-    ensures { λ r. ⌜ stopped r (now (work .exit)) (now (pivots .exit))
-        ≡ resume (given g (tableauOf (now (file .entry))) (now (state .entry))) ask (now (values .entry)) (scratch marks (now (work .entry)) (now (pivots .entry))) ⌝ }
+    ensures { λ r. ⌜ ((c : Counted) → movedStop r (scratch (marked memo c) (now (work .exit)) (now (pivots .exit)))
+        ≡ resume (given g (tableauOf (now (file .entry))) (now (state .entry))) ask (now (values .entry)) (scratch (marked memo c) (now (work .entry)) (now (pivots .entry)))) ⌝ }
 {
     let n = g.n;
     match ask {
         Ask::Derivative => {
-            return resume_derivative(g, file, state, work, pivots, marks, values);
+            return resume_derivative(g, file, state, work, pivots, memo, values);
         }
         Ask::Jacobian => {
             vector::put(work, 8 * n, values);
-            return jacobian_done(g, work, marks);
+            return attempts::moved_by(false, false, jacobian_done(g, work));
         }
         Ask::TimePartial => {
             vector::put(work, 4 * n, values);
-            return partial_done(g, file, state, work, pivots, marks);
+            return partial_done(g, file, state, work, pivots);
         }
         Ask::FirstProbe => {
-            return resume_first_probe(g, file, state, work, pivots, marks, values);
+            return resume_first_probe(g, file, state, work, pivots, memo, values);
         }
         Ask::SecondProbe => {
-            return resume_second_probe(g, file, state, work, pivots, marks, values);
+            return resume_second_probe(g, file, state, work, pivots, memo, values);
         }
         Ask::Column(k) => {
-            return resume_column(g, state, work, marks, k, values);
+            return attempts::moved_by(false, false, resume_column(g, state, work, k, values));
         }
         Ask::Stage(i) => {
-            return resume_stage(g, file, state, work, pivots, marks, i, values);
+            return resume_stage(g, file, state, work, pivots, i, values);
         }
     }
 }

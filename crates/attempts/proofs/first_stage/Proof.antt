@@ -4,8 +4,8 @@ use native.Mathlib.Omega.{arith}
 use mathlib.Core.Path.{_≡_, refl, _∙_}
 use borrow.Author.Needs.{needs}
 use Rattle.attempts.specs.Attempt.{onWork, onMarks, refuse, solveStage, firstStage}
-use Rattle.attempts.specs.Calls.{stageStop, factorStop}
-use Rattle.attempts.proofs.Links.{choose-yes, choose-no, go, ended, finite, not-finite, zero-as, via, left, copied, stage-of}
+use Rattle.attempts.specs.Calls.{haltStop, stageHalt, stageStop}
+use Rattle.attempts.proofs.Links.{choose-yes, choose-no, go, ended, finite, not-finite, zero-as, via, left, copied, stage-of, factored-stop, solved-stop}
 use Rattle.attempts.proofs.first_stage.Statement.{statement}
 use Rattle.attempts.proofs.first_stage.Tie as tie
 
@@ -23,11 +23,11 @@ same-length : tie.Need-same-length
 same-length c = search needs
 
 returns : tie.Need-returns
-unfolding firstStage onWork onMarks factorStop stageStop
+unfolding firstStage onWork onMarks haltStop stageHalt
 returns c m =
     let n = c .before .before .before .before .before .before .before .before .before .before .before .args .n in
     let l = c .before .before .before .before .before .stage-state .ensures in
-    ended 2 _ _ (not-finite (2 * n) n l (c .before .finite-at .ensures) (c .if1 .taken)) (left (refuse 2) _ _ l)
+    factored-stop _ _ ∙ ended 2 _ _ (not-finite (2 * n) n l (c .before .finite-at .ensures) (c .if1 .taken)) (left (refuse 2) _ _ l)
 
 c-requires : tie.Need-c-requires
 c-requires c κs = tt
@@ -59,21 +59,21 @@ copy-within-requires c κs =
     let q = stage-of (a .n) (a .s) 0 (c .before .before .before .before .before .before .before .before .before .before .before .before .before .before .pre .0 .some) in
     (omega arith, omega arith)
 
-stage-outcome-requires : tie.Need-stage-outcome-requires
-stage-outcome-requires c κs = (search needs, stage-of _ _ _ (c .before .before .before .before .before .before .before .before .before .before .before .before .before .before .before .before .before .before .pre .0 .some), c .before .before .before .before .before .before .before .before .before .before .before .before .before .before .before .before .before .before .pre .1)
+solve-stage-requires : tie.Need-solve-stage-requires
+solve-stage-requires c κs = (search needs, stage-of _ _ _ (c .before .before .before .before .before .before .before .before .before .before .before .before .before .before .before .before .before .before .pre .0 .some), c .before .before .before .before .before .before .before .before .before .before .before .before .before .before .before .before .before .before .pre .1)
 
 same-length-2 : tie.Need-same-length-2
 same-length-2 c = search needs
 
 returns-2 : tie.Need-returns-2
-unfolding firstStage onWork onMarks factorStop
+unfolding firstStage onWork onMarks
 returns-2 c m =
     let n = c .before .before .before .before .before .before .before .before .before .before .before .before .before .before .before .before .before .before .before .before .before .args .n in
     let s = c .before .before .before .before .before .before .before .before .before .before .before .before .before .before .before .before .before .before .before .before .before .args .s in
     let l = c .before .before .before .before .before .before .before .before .before .before .before .before .before .before .before .stage-state .ensures in
     let e : 8 * n + 2 * (n * n) + s * n ≡ 8 * n + 2 * (n * n) + s * n + 0 * n = omega arith in
-    go 2 _ (finite (2 * n) n l (c .before .before .before .before .before .before .before .before .before .before .before .finite-at .ensures) (c .before .before .before .before .before .before .before .before .before .before .if1 .left))
-    (choose-yes _ (zero-as (c .before .before .before .before .before .before .before .before .before .c .ensures) (c .before .before .before .before .before .before .before .before .if2 .taken)) (via (solveStage _ 0) refl (copied (3 * n) n e l (c .before .before .before .before .before .before .copy-within .ensures)) refl (c .before .before .stage-outcome .ensures _)))
+    solved-stop _ _ ∙ go 2 _ (finite (2 * n) n l (c .before .before .before .before .before .before .before .before .before .before .before .finite-at .ensures) (c .before .before .before .before .before .before .before .before .before .before .if1 .left))
+    (choose-yes _ (zero-as (c .before .before .before .before .before .before .before .before .before .c .ensures) (c .before .before .before .before .before .before .before .before .if2 .taken)) (via (solveStage _ 0) refl (copied (3 * n) n e l (c .before .before .before .before .before .before .copy-within .ensures)) refl (c .before .before .solve-stage .ensures _)))
 
 ask-stage-requires : tie.Need-ask-stage-requires
 ask-stage-requires c κs = tt
@@ -82,11 +82,11 @@ same-length-3 : tie.Need-same-length-3
 same-length-3 c = search needs
 
 returns-3 : tie.Need-returns-3
-unfolding firstStage onWork onMarks factorStop
+unfolding firstStage onWork onMarks
 returns-3 c m =
     let a = c .before .before .before .before .before .before .before .before .before .before .before .before .before .before .args in
     let l = c .before .before .before .before .before .before .before .before .stage-state .ensures in
-    go 2 _ (finite (2 * a .n) (a .n) l (c .before .before .before .before .finite-at .ensures) (c .before .before .before .if1 .left))
+    factored-stop _ _ ∙ go 2 _ (finite (2 * a .n) (a .n) l (c .before .before .before .before .finite-at .ensures) (c .before .before .before .if1 .left))
     (choose-no _ (zero-as (c .before .before .c .ensures) (c .before .if2 .left)) (left (stageStop _) _ _ l ∙ c .ask-stage .ensures (a .n) (a .s) _ _ _ (c .before .before .c .ensures)))
 
 pub first-stage-spec : {M : Type 1} → statement M
@@ -107,7 +107,7 @@ first-stage-spec =
     add-copy-within-2
     mul-copy-within-5
     copy-within-requires
-    stage-outcome-requires
+    solve-stage-requires
     same-length-2
     returns-2
     ask-stage-requires

@@ -3,7 +3,7 @@ use Prim.Native.Nat.{_*_}
 use mathlib.Core.Path.{_∙_}
 use borrow.Author.Needs.{needs}
 use Rattle.attempts.specs.Attempt.{onWork, refuse, openStage}
-use Rattle.attempts.specs.Calls.{stageStop}
+use Rattle.attempts.specs.Calls.{stageStop, haltStop, stageHalt}
 use Rattle.attempts.proofs.Links.{go, ended, finite, not-finite, left}
 use Rattle.attempts.proofs.open_stage.Statement.{statement}
 use Rattle.attempts.proofs.open_stage.Tie as tie
@@ -21,7 +21,7 @@ same-length : tie.Need-same-length
 same-length c = search needs
 
 returns : tie.Need-returns
-unfolding openStage onWork stageStop
+unfolding openStage onWork haltStop stageHalt
 returns c m p =
     let n = c .before .before .before .before .before .before .before .before .before .before .args .n in
     let l = c .before .before .before .before .before .stage-state .ensures in

@@ -1,16 +1,15 @@
 -- `evaluations::ask_partial` meets its contract. Assumes nothing.
+use mathlib.Core.Path.{refl}
 use Rattle.attempts.specs.Attempt.{askPartial}
+use Rattle.attempts.specs.Calls.{haltStop}
 use Rattle.attempts.proofs.Links.{choose-yes, choose-no}
 use Rattle.evaluations.proofs.Links.{probes-as}
 use Rattle.evaluations.proofs.ask_partial.Statement.{statement}
 use Rattle.evaluations.proofs.ask_partial.Tie as tie
 
-request-requires : tie.Need-request-requires
-request-requires c κs = tt
-
 returns : tie.Need-returns
-unfolding askPartial
-returns c t state w p = choose-yes _ (c .before .if1 .taken) (c .request .ensures w p)
+unfolding askPartial haltStop
+returns c t state x = choose-yes _ (c .if1 .taken) refl
 
 probes-requires : tie.Need-probes-requires
 probes-requires c κs = tt
@@ -20,9 +19,7 @@ ask-first-probe-requires c κs = tt
 
 returns-2 : tie.Need-returns-2
 unfolding askPartial
-returns-2 c t state w p = choose-no _ (c .before .before .before .if1 .left) (probes-as _ _ (c .before .probes .ensures) (c .ask-first-probe .ensures _ w p))
+returns-2 c t state x = choose-no _ (c .before .before .before .if1 .left) (probes-as _ x (c .before .probes .ensures) (c .ask-first-probe .ensures _ x))
 
 pub ask-partial-spec : {M : Type 1} → statement M
-ask-partial-spec =
-    tie.close
-    (tie.spec request-requires returns probes-requires ask-first-probe-requires returns-2)
+ask-partial-spec = tie.close (tie.spec returns probes-requires ask-first-probe-requires returns-2)

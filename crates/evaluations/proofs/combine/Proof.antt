@@ -20,10 +20,7 @@ same-length-2 c = search needs
 
 returns : tie.Need-returns
 unfolding combine onWork
-returns c =
-    via (partialDone _) refl (c .before .before .before .before .before .before .before .before .before .time-partial .ensures) refl (c .before .before .before .before .partial-done .ensures)
+returns c k = via (partialDone _) refl (c .before .before .before .before .before .before .before .before .before .time-partial .ensures) refl (c .before .before .before .before .partial-done .ensures _)
 
 pub combine-spec : {M : Type 1} → statement M
-combine-spec =
-    tie.close
-    (tie.spec time-partial-requires partial-done-requires same-length same-length-2 returns)
+combine-spec = tie.close (tie.spec time-partial-requires partial-done-requires same-length same-length-2 returns)

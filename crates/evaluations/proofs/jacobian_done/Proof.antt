@@ -1,7 +1,9 @@
 -- `evaluations::jacobian_done` meets its contract. Assumes nothing.
+use mathlib.Core.Path.{refl}
 use borrow.Author.Needs.{needs}
 use Rattle.float.proofs.Cases.{told-no, told-yes}
 use Rattle.attempts.specs.Attempt.{jacobianDone}
+use Rattle.attempts.specs.Calls.{haltStop}
 use Rattle.attempts.proofs.Links.{go, ended}
 use Rattle.evaluations.proofs.jacobian_done.Statement.{statement}
 use Rattle.evaluations.proofs.jacobian_done.Tie as tie
@@ -15,28 +17,16 @@ mul-finite-at-2 c = search needs
 finite-at-requires : tie.Need-finite-at-requires
 finite-at-requires c κs = search needs
 
-refuse-requires : tie.Need-refuse-requires
-refuse-requires c κs = tt
-
 returns : tie.Need-returns
-unfolding jacobianDone
-returns c t state p = ended 2 _ _ (told-no (c .before .before .finite-at .ensures) (c .before .if1 .taken)) (c .refuse .ensures _ p)
+unfolding jacobianDone haltStop
+returns c t state m p = ended 2 _ _ (told-no (c .before .finite-at .ensures) (c .if1 .taken)) refl
 
 ask-partial-requires : tie.Need-ask-partial-requires
 ask-partial-requires c κs = tt
 
 returns-2 : tie.Need-returns-2
 unfolding jacobianDone
-returns-2 c t state p = go 2 _ (told-yes (c .before .before .finite-at .ensures) (c .before .if1 .left)) (c .ask-partial .ensures t state _ p)
+returns-2 c t state m p = go 2 _ (told-yes (c .before .before .finite-at .ensures) (c .before .if1 .left)) (c .ask-partial .ensures t state _)
 
 pub jacobian-done-spec : {M : Type 1} → statement M
-jacobian-done-spec =
-    tie.close
-    (tie.spec
-    mul-finite-at
-    mul-finite-at-2
-    finite-at-requires
-    refuse-requires
-    returns
-    ask-partial-requires
-    returns-2)
+jacobian-done-spec = tie.close (tie.spec mul-finite-at mul-finite-at-2 finite-at-requires returns ask-partial-requires returns-2)

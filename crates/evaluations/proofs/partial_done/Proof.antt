@@ -1,9 +1,12 @@
 -- `evaluations::partial_done` meets its contract. Assumes nothing.
+use mathlib.Core.Path.{refl, _∙_}
 use borrow.Author.Needs.{needs}
 use Rattle.float.proofs.Cases.{told-no, told-yes}
-use Rattle.attempts.specs.Marks.{withDifferentiation, noting}
 use Rattle.attempts.specs.Attempt.{onMarks, partialDone}
+use Rattle.attempts.specs.Calls.{haltStop}
 use Rattle.attempts.proofs.Links.{go, ended}
+use Rattle.attempts.proofs.Settings.{factor-reduced}
+use Rattle.evaluations.proofs.Links.{unmoved, factor-as, differentiation-as}
 use Rattle.evaluations.proofs.partial_done.Statement.{statement}
 use Rattle.evaluations.proofs.partial_done.Tie as tie
 
@@ -13,18 +16,21 @@ mul-finite-at c = search needs
 finite-at-requires : tie.Need-finite-at-requires
 finite-at-requires c κs = search needs
 
-refuse-requires : tie.Need-refuse-requires
-refuse-requires c κs = tt
+moved-by-requires : tie.Need-moved-by-requires
+moved-by-requires c κs = tt
 
 same-length : tie.Need-same-length
 same-length c = search needs
 
 returns : tie.Need-returns
-unfolding partialDone
-returns c = ended 2 _ _ (told-no (c .before .before .finite-at .ensures) (c .before .if1 .taken)) (c .refuse .ensures _ _)
+unfolding partialDone haltStop
+returns c m = unmoved _ _ (c .moved-by .ensures) (ended 2 _ _ (told-no (c .before .before .finite-at .ensures) (c .before .if1 .taken)) refl)
 
 factor-requires : tie.Need-factor-requires
 factor-requires c κs = search needs
+
+factor-moved-requires : tie.Need-factor-moved-requires
+factor-moved-requires c κs = tt
 
 same-length-2 : tie.Need-same-length-2
 same-length-2 c = search needs
@@ -33,20 +39,8 @@ same-length-3 : tie.Need-same-length-3
 same-length-3 c = search needs
 
 returns-2 : tie.Need-returns-2
-unfolding partialDone onMarks noting withDifferentiation
-returns-2 c =
-    go 2 _ (told-yes (c .before .before .before .before .before .before .before .before .before .finite-at .ensures) (c .before .before .before .before .before .before .before .before .if1 .left)) (c .before .before .before .before .factor .ensures)
+unfolding partialDone onMarks
+returns-2 c m = differentiation-as _ m _ _ (go 2 _ (told-yes (c .before .before .before .before .before .before .before .before .before .finite-at .ensures) (c .before .before .before .before .before .before .before .before .if1 .left)) (factor-as _ _ (c .factor-moved .ensures) (c .before .before .before .before .before .factor .ensures _) ∙ factor-reduced _ _ _ _))
 
 pub partial-done-spec : {M : Type 1} → statement M
-partial-done-spec =
-    tie.close
-    (tie.spec
-    mul-finite-at
-    finite-at-requires
-    refuse-requires
-    same-length
-    returns
-    factor-requires
-    same-length-2
-    same-length-3
-    returns-2)
+partial-done-spec = tie.close (tie.spec mul-finite-at finite-at-requires moved-by-requires same-length returns factor-requires factor-moved-requires same-length-2 same-length-3 returns-2)

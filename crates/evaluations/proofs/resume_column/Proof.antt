@@ -1,10 +1,10 @@
 -- `evaluations::resume_column` meets its contract. Assumes nothing.
-use mathlib.Core.Path.{refl}
 use borrow.Author.Needs.{needs}
 use Rattle.float.proofs.Cases.{told-no, told-yes}
 use Rattle.vector.specs.Parts.{puts}
 use Rattle.attempts.specs.Attempt.{onWork, refuse, nextColumn, written, resume}
-use Rattle.attempts.proofs.Links.{go, ended, via, via-next, then}
+use Rattle.attempts.specs.Calls.{haltStop}
+use Rattle.attempts.proofs.Links.{go, ended, via-next, left, then}
 use Rattle.evaluations.proofs.Links.{column-as}
 use Rattle.evaluations.proofs.resume_column.Statement.{statement}
 use Rattle.evaluations.proofs.resume_column.Tie as tie
@@ -24,16 +24,12 @@ put-requires c κs = search needs
 all-finite-requires : tie.Need-all-finite-requires
 all-finite-requires c κs = tt
 
-refuse-requires : tie.Need-refuse-requires
-refuse-requires c κs = tt
-
 same-length : tie.Need-same-length
 same-length c = search needs
 
 returns : tie.Need-returns
-unfolding resume written onWork
-returns c t p =
-    ended 2 _ _ (told-no (c .before .before .all-finite .ensures) (c .before .if1 .taken)) (via (refuse 2) refl (then (puts _ _ _) (c .before .before .before .before .before .before .before .before .before .before .before .pre .2) (c .before .before .before .before .before .put .ensures)) refl (c .refuse .ensures _ p))
+unfolding resume written onWork haltStop
+returns c t m p = ended 2 _ _ (told-no (c .before .all-finite .ensures) (c .if1 .taken)) (left (refuse 2) m p (then (puts _ _ _) (c .before .before .before .before .before .before .before .before .before .before .pre .2) (c .before .before .before .before .put .ensures)))
 
 rise-requires : tie.Need-rise-requires
 rise-requires c κs = tt
@@ -52,26 +48,7 @@ same-length-2 c = search needs
 
 returns-2 : tie.Need-returns-2
 unfolding resume written onWork
-returns-2 c t p =
-    let l = then (puts _ _ _) (c .before .before .before .before .before .before .before .before .before .before .before .before .before .before .before .before .before .before .before .pre .2) (c .before .before .before .before .before .before .before .before .before .before .before .before .before .put .ensures) in
-    go 2 _ (told-yes (c .before .before .before .before .before .before .before .before .before .before .all-finite .ensures) (c .before .before .before .before .before .before .before .before .before .if1 .left))
-    (via-next (nextColumn _) _ _ p (column-as _ _ (c .before .before .before .before .before .before .before .rise .ensures) l (c .before .before .before .before .before .before .column .ensures)) (c .before .before .next-column .ensures t p))
+returns-2 c t m p = let l = (then (puts _ _ _) (c .before .before .before .before .before .before .before .before .before .before .before .before .before .before .before .before .before .before .before .pre .2) (c .before .before .before .before .before .before .before .before .before .before .before .before .before .put .ensures)) in go 2 _ (told-yes (c .before .before .before .before .before .before .before .before .before .before .all-finite .ensures) (c .before .before .before .before .before .before .before .before .before .if1 .left)) (via-next (nextColumn _) _ _ p (column-as _ _ (c .before .before .before .before .before .before .before .rise .ensures) l (c .before .before .before .before .before .before .column .ensures)) (c .before .before .next-column .ensures t m p))
 
 pub resume-column-spec : {M : Type 1} → statement M
-resume-column-spec =
-    tie.close
-    (tie.spec
-    mul-y
-    shared-slice-read-y
-    mul-put
-    put-requires
-    all-finite-requires
-    refuse-requires
-    same-length
-    returns
-    rise-requires
-    column-requires
-    add-next-column
-    next-column-requires
-    same-length-2
-    returns-2)
+resume-column-spec = tie.close (tie.spec mul-y shared-slice-read-y mul-put put-requires all-finite-requires same-length returns rise-requires column-requires add-next-column next-column-requires same-length-2 returns-2)

@@ -4,7 +4,9 @@ use borrow.Author.Needs.{needs}
 use Rattle.float.proofs.Cases.{told-no, told-yes}
 use Rattle.vector.specs.Parts.{puts}
 use Rattle.attempts.specs.Attempt.{onWork, refuse, askRhs, combine, written, resume}
-use Rattle.attempts.proofs.Links.{choose-yes, choose-no, go, ended, via, then}
+use Rattle.attempts.specs.Calls.{haltStop}
+use Rattle.attempts.proofs.Links.{choose-yes, choose-no, go, ended, via, left, then}
+use Rattle.evaluations.proofs.Links.{unmoved}
 use Rattle.evaluations.proofs.resume_first_probe.Statement.{statement}
 use Rattle.evaluations.proofs.resume_first_probe.Tie as tie
 
@@ -17,27 +19,25 @@ put-requires c κs = search needs
 all-finite-requires : tie.Need-all-finite-requires
 all-finite-requires c κs = tt
 
-refuse-requires : tie.Need-refuse-requires
-refuse-requires c κs = tt
+moved-by-requires : tie.Need-moved-by-requires
+moved-by-requires c κs = tt
 
 same-length : tie.Need-same-length
 same-length c = search needs
 
 returns : tie.Need-returns
-unfolding resume written onWork
-returns c =
-    ended 2 _ _ (told-no (c .before .before .all-finite .ensures) (c .before .if1 .taken)) (via (refuse 2) refl (then (puts _ _ _) (c .before .before .before .before .before .before .before .before .before .before .before .before .before .pre .2) (c .before .before .before .before .before .put .ensures)) refl (c .refuse .ensures _ _))
+unfolding resume written onWork haltStop
+returns c k = unmoved _ _ (c .moved-by .ensures) (ended 2 _ _ (told-no (c .before .before .all-finite .ensures) (c .before .if1 .taken)) (left (refuse 2) _ _ (then (puts _ _ _) (c .before .before .before .before .before .before .before .before .before .before .before .before .before .pre .2) (c .before .before .before .before .before .put .ensures))))
 
-ask-rhs-requires : tie.Need-ask-rhs-requires
-ask-rhs-requires c κs = tt
+moved-by-requires-2 : tie.Need-moved-by-requires-2
+moved-by-requires-2 c κs = tt
 
 same-length-2 : tie.Need-same-length-2
 same-length-2 c = search needs
 
 returns-2 : tie.Need-returns-2
-unfolding resume written onWork
-returns-2 c =
-    go 2 _ (told-yes (c .before .before .before .all-finite .ensures) (c .before .before .if1 .left)) (choose-yes _ (c .before .if2 .taken) (via (askRhs _ _) refl (then (puts _ _ _) (c .before .before .before .before .before .before .before .before .before .before .before .before .before .before .pre .2) (c .before .before .before .before .before .before .put .ensures)) refl (c .ask-rhs .ensures _ _)))
+unfolding resume written onWork haltStop
+returns-2 c k = unmoved _ _ (c .moved-by2 .ensures) (go 2 _ (told-yes (c .before .before .before .all-finite .ensures) (c .before .before .if1 .left)) (choose-yes _ (c .before .if2 .taken) (left (askRhs _ _) _ _ (then (puts _ _ _) (c .before .before .before .before .before .before .before .before .before .before .before .before .before .before .pre .2) (c .before .before .before .before .before .before .put .ensures)))))
 
 combine-requires : tie.Need-combine-requires
 combine-requires c κs = search needs
@@ -50,23 +50,7 @@ same-length-4 c = search needs
 
 returns-3 : tie.Need-returns-3
 unfolding resume written onWork
-returns-3 c =
-    go 2 _ (told-yes (c .before .before .before .before .before .before .before .before .before .all-finite .ensures) (c .before .before .before .before .before .before .before .before .if1 .left)) (choose-no _ (c .before .before .before .before .before .before .before .if2 .left) (via (combine _) refl (then (puts _ _ _) (c .before .before .before .before .before .before .before .before .before .before .before .before .before .before .before .before .before .before .before .before .pre .2) (c .before .before .before .before .before .before .before .before .before .before .before .before .put .ensures)) refl (c .before .before .before .before .combine .ensures)))
+returns-3 c k = go 2 _ (told-yes (c .before .before .before .before .before .before .before .before .before .all-finite .ensures) (c .before .before .before .before .before .before .before .before .if1 .left)) (choose-no _ (c .before .before .before .before .before .before .before .if2 .left) (via (combine _) refl (then (puts _ _ _) (c .before .before .before .before .before .before .before .before .before .before .before .before .before .before .before .before .before .before .before .before .pre .2) (c .before .before .before .before .before .before .before .before .before .before .before .before .put .ensures)) refl (c .before .before .before .before .combine .ensures k)))
 
 pub resume-first-probe-spec : {M : Type 1} → statement M
-resume-first-probe-spec =
-    tie.close
-    (tie.spec
-    mul-put
-    put-requires
-    all-finite-requires
-    refuse-requires
-    same-length
-    returns
-    ask-rhs-requires
-    same-length-2
-    returns-2
-    combine-requires
-    same-length-3
-    same-length-4
-    returns-3)
+resume-first-probe-spec = tie.close (tie.spec mul-put put-requires all-finite-requires moved-by-requires same-length returns moved-by-requires-2 same-length-2 returns-2 combine-requires same-length-3 same-length-4 returns-3)

@@ -1,10 +1,13 @@
 -- `evaluations::resume_stage` meets its contract. Assumes nothing.
-use mathlib.Core.Path.{refl}
+use mathlib.Core.Path.{refl, _∙_}
 use borrow.Author.Needs.{needs}
 use Rattle.float.proofs.Cases.{told-no, told-yes}
 use Rattle.vector.specs.Parts.{puts}
 use Rattle.attempts.specs.Attempt.{onWork, refuse, solveStage, written, resume}
-use Rattle.attempts.proofs.Links.{go, ended, via, then}
+use Rattle.attempts.specs.Calls.{haltStop}
+use Rattle.attempts.proofs.Links.{go, ended, via, left, then}
+use Rattle.attempts.proofs.Settings.{solve-reduced}
+use Rattle.evaluations.proofs.Links.{unmoved, solved}
 use Rattle.evaluations.proofs.resume_stage.Statement.{statement}
 use Rattle.evaluations.proofs.resume_stage.Tie as tie
 
@@ -38,46 +41,31 @@ put-requires c κs = search needs
 all-finite-requires : tie.Need-all-finite-requires
 all-finite-requires c κs = tt
 
-refuse-requires : tie.Need-refuse-requires
-refuse-requires c κs = tt
+moved-by-requires : tie.Need-moved-by-requires
+moved-by-requires c κs = tt
 
 same-length : tie.Need-same-length
 same-length c = search needs
 
 returns : tie.Need-returns
-unfolding resume written onWork
-returns c =
-    ended 2 _ _ (told-no (c .before .before .all-finite .ensures) (c .before .if1 .taken)) (via (refuse 2) refl (then (puts _ _ _) (c .before .before .before .before .before .before .before .before .before .before .before .before .pre .3) (c .before .before .before .before .before .put .ensures)) refl (c .refuse .ensures _ _))
+unfolding resume written onWork haltStop
+returns c m = unmoved _ _ (c .moved-by .ensures) (ended 2 _ _ (told-no (c .before .before .all-finite .ensures) (c .before .if1 .taken)) (left (refuse 2) _ _ (then (puts _ _ _) (c .before .before .before .before .before .before .before .before .before .before .before .before .pre .3) (c .before .before .before .before .before .put .ensures))))
 
 solve-stage-requires : tie.Need-solve-stage-requires
-solve-stage-requires c κs =
-    (search needs, c .before .before .before .before .before .before .before .before .before .before .before .before .pre .1, c .before .before .before .before .before .before .before .before .before .before .before .before .pre .2)
+solve-stage-requires c κs = (search needs, c .before .before .before .before .before .before .before .before .before .before .before .before .pre .1, c .before .before .before .before .before .before .before .before .before .before .before .before .pre .2)
+
+stage-halt-requires : tie.Need-stage-halt-requires
+stage-halt-requires c κs = tt
+
+moved-by-requires-2 : tie.Need-moved-by-requires-2
+moved-by-requires-2 c κs = tt
 
 same-length-2 : tie.Need-same-length-2
 same-length-2 c = search needs
 
 returns-2 : tie.Need-returns-2
 unfolding resume written onWork
-returns-2 c =
-    go 2 _ (told-yes (c .before .before .before .before .before .all-finite .ensures) (c .before .before .before .before .if1 .left)) (via (solveStage _ _) refl (then (puts _ _ _) (c .before .before .before .before .before .before .before .before .before .before .before .before .before .before .before .pre .3) (c .before .before .before .before .before .before .before .before .put .ensures)) refl (c .before .before .solve-stage .ensures))
+returns-2 c m = go 2 _ (told-yes (c .before .before .before .before .before .before .before .all-finite .ensures) (c .before .before .before .before .before .before .if1 .left)) (solved _ (c .moved-by2 .ensures) (c .before .stage-halt .ensures) (c .before .before .before .before .solve-stage .ensures m ∙ solve-reduced _ _ _ _ _ ∙ left (solveStage _ _) m _ (then (puts _ _ _) (c .before .before .before .before .before .before .before .before .before .before .before .before .before .before .before .before .before .pre .3) (c .before .before .before .before .before .before .before .before .before .before .put .ensures))))
 
 pub resume-stage-spec : {M : Type 1} → statement M
-resume-stage-spec =
-    tie.close
-    (tie.spec
-    mul-put
-    mul-put-2
-    mul-put-3
-    add-put
-    mul-put-4
-    add-put-2
-    mul-put-5
-    add-put-3
-    put-requires
-    all-finite-requires
-    refuse-requires
-    same-length
-    returns
-    solve-stage-requires
-    same-length-2
-    returns-2)
+resume-stage-spec = tie.close (tie.spec mul-put mul-put-2 mul-put-3 add-put mul-put-4 add-put-2 mul-put-5 add-put-3 put-requires all-finite-requires moved-by-requires same-length returns solve-stage-requires stage-halt-requires moved-by-requires-2 same-length-2 returns-2)
