@@ -33,12 +33,13 @@ use Rattle.refusals.specs.declared.Progress.{Progress}
 use Rattle.rosenbrock.specs.declared.RosenbrockStepper.{RosenbrockStepper}
 use Rattle.rosenbrock.specs.declared.Answer.the-variants.{Refused}
 use Rattle.rosenbrock.specs.declared.Outcome.{Outcome}
+use Rattle.rosenbrock.specs.declared.Reply.the-variants as reply
 use Rattle.refusals.specs.Requests.{askOf, askNumber, askStage, requestAfter, stageAfter}
 use Rattle.refusals.specs.Answers.{Lent, lending, asked, requestOf, answerOf}
 use Rattle.refusals.specs.Tests.{attemptTests, stepTests, supplyTests, fileTests, openTest, requestTest, pivotsUnfit, answerTests, lentTests}
 use Rattle.rosenbrock.specs.Calls.{givenBy, scratchBy, progressAfter, settle, opening, opened, attemptBy, attemptOf, towards, attemptToOf, supplyOf, settingBy}
 use Rattle.rosenbrock.specs.Stepper.{attempt, attempt-to, supply, called, tallied, needed, trimmed, untrimmed, Next, result, stepped, nextBy}
-use Rattle.rosenbrock.specs.Contracts.{systemOf, answerBy, nextOf, marksBy, answerAfter, outcomeAfter}
+use Rattle.rosenbrock.specs.Contracts.{systemOf, answerBy, nextOf, marksBy, answerAfter, outcomeAfter, replied, repliedAttempt}
 use Rattle.refusals.proofs.Requests.{read-back, in-range}
 use Rattle.refusals.proofs.Fitting.{Shape, fits-passed}
 use Rattle.refusals.proofs.Passed.{supply-passed, supply-values}
@@ -54,6 +55,10 @@ unfolding answerBy answerAfter answerOf progressAfter requestAfter stageAfter
 answer-read fx x memo m (Asks a) = ap (λ (b : Ask). asked (requestOf fx (progressAfter x memo (askNumber a) (askStage a)) m b)) (read-back a)
 answer-read fx x memo m (Ends k) = refl
 answer-read fx x memo m Shows = refl
+
+-- the record moved by a reply
+pub by-reply : (state work : List Float) (pivots : List ℕ) {o o′ : Outcome} {r : Next} → o ≡ o′ → nextOf o′ state work pivots ≡ r → nextOf o state work pivots ≡ r
+by-reply state work pivots e h = ap (λ (o : Outcome). nextOf o state work pivots) e ∙ h
 
 module _ (y : RosenbrockStepper) (state work : List Float) (pivots : List ℕ) where
   abbrev m : Lent
@@ -117,23 +122,22 @@ module _ (y : RosenbrockStepper) (state work : List Float) (pivots : List ℕ) w
 
   module _ (file : List ℕ) (jacobian partial : Bool) where
     module _ (step : Float) {k : ℕ} (e : k ≡ firstOf (stepTests step (y .progress))) where
-      pub step-refused : (k ≡ 0 → ⊥) → nextOf (left y (y .progress) (y .statistics) (Refused k)) state work pivots ≡ nextBy y m (attemptBy (y .fixed) file step jacobian partial (y .progress) cut-m)
-      unfolding attemptBy
+      pub step-refused : (k ≡ 0 → ⊥) → nextOf (repliedAttempt y step jacobian partial (reply.Refused k)) state work pivots ≡ nextBy y m (attemptBy (y .fixed) file step jacobian partial (y .progress) cut-m)
+      unfolding attemptBy repliedAttempt
       step-refused h = guard-refuses y state work pivots _ _ e h
 
-      pub step-opened : k ≡ 0 → {x : Progress} {g : Setting} {marks : Marks} {need : ℕ} {stop : Stop} {w : List Float} {p : List ℕ} {o : Outcome}
+      pub step-opened : k ≡ 0 → {x : Progress} {g : Setting} {marks : Marks} {need : ℕ} {stop : Stop} {w : List Float} {p : List ℕ}
           → need ≡ neededWork (y .fixed .n) (y .fixed .s) → x ≡ opening step jacobian partial (y .progress) → g ≡ settingBy (y .fixed) x → marks ≡ marksBy (x .memo) true
-          → stopped stop w p ≡ start (given g (tableauOf file) state) (scratch marks (take need work) pivots) → o ≡ outcomeAfter (y .fixed) x (y .statistics) stop
-          → nextOf o state (w ++ drop need work) p ≡ nextBy y m (attemptBy (y .fixed) file step jacobian partial (y .progress) cut-m)
-      unfolding attemptBy opened givenBy scratchBy marksBy trimmed needed settle
-      step-opened z {need = need} a b c d f h =
+          → stopped stop w p ≡ start (given g (tableauOf file) state) (scratch marks (take need work) pivots)
+          → nextOf (repliedAttempt y step jacobian partial (reply.Stopped stop)) state (w ++ drop need work) p ≡ nextBy y m (attemptBy (y .fixed) file step jacobian partial (y .progress) cut-m)
+      unfolding attemptBy opened givenBy scratchBy marksBy trimmed needed settle repliedAttempt
+      step-opened z {need = need} a b c d f =
           let fx = y .fixed in
           let X = opening step jacobian partial (y .progress) in
           let c′ = c ∙ ap (settingBy fx) b in
           let d′ = d ∙ ap (λ (x : Progress). marksBy (x .memo) true) b in
           let f′ = f ∙ (λ i. start (given (c′ i) (tableauOf file) state) (scratch (d′ i) (take (a i) work) pivots)) in
-          let h′ = h ∙ (λ i. outcomeAfter fx (b i) (y .statistics) (f′ i .stop)) in
-          (λ i. nextOf (h′ i) state (f′ i .work ++ drop (a i) work) (f′ i .pivots))
+          (λ i. nextOf (outcomeAfter fx X (y .statistics) (f′ i .stop)) state (f′ i .work ++ drop (a i) work) (f′ i .pivots))
           ∙ settle-next X _ (opened-keeps fx X cut-m file .of-work)
           ∙ guard-passes y state work pivots (stepTests step (y .progress)) _ e z
 
@@ -146,8 +150,8 @@ module _ (y : RosenbrockStepper) (state work : List Float) (pivots : List ℕ) w
 
       module _ (step : Float) where
         pub attempt-refused : (k ≡ 0 → ⊥)
-            → nextOf (left y (y .progress) (y .statistics) (Refused k)) state work pivots ≡ stepped (attempt file step jacobian partial) (systemOf y state work pivots)
-        unfolding result called attemptOf
+            → nextOf (repliedAttempt y step jacobian partial (reply.Refused k)) state work pivots ≡ stepped (attempt file step jacobian partial) (systemOf y state work pivots)
+        unfolding result called attemptOf repliedAttempt
         attempt-refused h = refused-next y state work pivots (attempt file step jacobian partial) _ _ refl openable h
 
         pub attempt-done : k ≡ 0 → {r : Next} → r ≡ nextBy y m (attemptBy (y .fixed) file step jacobian partial (y .progress) cut-m)
@@ -188,8 +192,8 @@ module _ (y : RosenbrockStepper) (state work : List Float) (pivots : List ℕ) w
     unfolding trimmed
     answerable = e ∙ cut (y .fixed) (y .progress) state work pivots _
 
-    pub supply-refused : (k ≡ 0 → ⊥) → nextOf (left y (y .progress) (y .statistics) (Refused k)) state work pivots ≡ stepped (supply file values) (systemOf y state work pivots)
-    unfolding result called supplyOf
+    pub supply-refused : (k ≡ 0 → ⊥) → nextOf (replied y (reply.Refused k)) state work pivots ≡ stepped (supply file values) (systemOf y state work pivots)
+    unfolding result called supplyOf replied
     supply-refused h = refused-next y state work pivots (supply file values) _ _ refl answerable h
 
     module _ (z : k ≡ 0) where
@@ -223,16 +227,15 @@ module _ (y : RosenbrockStepper) (state work : List Float) (pivots : List ℕ) w
             values = wanted-values .0;
           })
 
-      pub supply-done : {g : Setting} {marks : Marks} {a : Ask} {need : ℕ} {stop : Stop} {w : List Float} {p : List ℕ} {o : Outcome}
+      pub supply-done : {g : Setting} {marks : Marks} {a : Ask} {need : ℕ} {stop : Stop} {w : List Float} {p : List ℕ}
           → need ≡ neededWork (y .fixed .n) (y .fixed .s) → g ≡ settingBy (y .fixed) (y .progress) → marks ≡ marksBy (y .progress .memo) false → a ≡ asks
-          → stopped stop w p ≡ resume (given g (tableauOf file) state) a values (scratch marks (take need work) pivots) → o ≡ outcomeAfter (y .fixed) (y .progress) (y .statistics) stop
-          → nextOf o state (w ++ drop need work) p ≡ stepped (supply file values) (systemOf y state work pivots)
-      unfolding result called supplyOf givenBy scratchBy marksBy trimmed needed settle
-      supply-done a b c d f h =
+          → stopped stop w p ≡ resume (given g (tableauOf file) state) a values (scratch marks (take need work) pivots)
+          → nextOf (replied y (reply.Stopped stop)) state (w ++ drop need work) p ≡ stepped (supply file values) (systemOf y state work pivots)
+      unfolding result called supplyOf givenBy scratchBy marksBy trimmed needed settle replied
+      supply-done a b c d f =
           let fx = y .fixed in
           let x = y .progress in
           let f′ = f ∙ (λ i. resume (given (b i) (tableauOf file) state) (d i) values (scratch (c i) (take (a i) work) pivots)) in
-          let h′ = h ∙ (λ i. outcomeAfter fx x (y .statistics) (f′ i .stop)) in
-          (λ i. nextOf (h′ i) state (f′ i .work ++ drop (a i) work) (f′ i .pivots))
+          (λ i. nextOf (outcomeAfter fx x (y .statistics) (f′ i .stop)) state (f′ i .work ++ drop (a i) work) (f′ i .pivots))
           ∙ settle-next x _ (resumed-keeps fx x cut-m file asks values .of-work)
           ∙ passed-next y state work pivots (supply file values) _ _ refl answerable z

@@ -17,11 +17,13 @@ use Rattle.rosenbrock.specs.declared.RosenbrockStepper.{RosenbrockSteppe
 use Rattle.rosenbrock.specs.declared.Answer as code
 use Rattle.rosenbrock.specs.declared.Answer.the-variants.{Asked, Shown, Done, Refused}
 use Rattle.rosenbrock.specs.declared.Outcome.{Outcome}
+use Rattle.rosenbrock.specs.declared.Reply.{Reply}
+use Rattle.rosenbrock.specs.declared.Reply.the-variants as reply
 use Rattle.rosenbrock.specs.declared.Making.{Making}
 use Rattle.rosenbrock.specs.declared.Making.the-variants as making
 use Rattle.refusals.specs.Requests.{askOf, requestAfter, stageAfter}
 use Rattle.refusals.specs.Answers.{Lent, lending, Answer, refused, asked, shown, done, requestOf, viewOf}
-use Rattle.rosenbrock.specs.Calls.{progressAfter}
+use Rattle.rosenbrock.specs.Calls.{progressAfter, opening}
 use Rattle.rosenbrock.specs.Stepper.{System, tallied, needed, trimmed, Next, Made, not-made, made, make}
 
 -- a record with the memory lent to it
@@ -100,3 +102,18 @@ outcomeAfter fx x t r =
           };
       answer = answerAfter ending;
     }
+
+-- what a reply says of the record it was given for: a refusal leaves it, and where the attempt stopped it goes on
+unfoldable pub replied : RosenbrockStepper → Reply → Outcome
+replied y (reply.Refused k) = record { stepper = y; answer = Refused k }
+replied y (reply.Stopped r) = outcomeAfter (y .fixed) (y .progress) (y .statistics) r
+
+-- the same for an attempt, which opens the record first
+unfoldable pub repliedAttempt : RosenbrockStepper → Float → Bool → Bool → Reply → Outcome
+repliedAttempt y step jacobian partial (reply.Refused k) = record { stepper = y; answer = Refused k }
+repliedAttempt y step jacobian partial (reply.Stopped r) = outcomeAfter (y .fixed) (opening step jacobian partial (y .progress)) (y .statistics) r
+
+-- the number of a refusal that leaves the record
+unfoldable pub refusedBy : Reply → ℕ
+refusedBy (reply.Refused k) = k
+refusedBy (reply.Stopped r) = 0

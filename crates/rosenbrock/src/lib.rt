@@ -9,7 +9,7 @@ ghost use Rattle.refusals.specs.Tests.{shapeFits};
 ghost use Rattle.refusals.specs.Answers.{lending};
 ghost use Rattle.rosenbrock.specs.Calls.{settingBy, memoAccepted, fresh, opening, attemptBy};
 ghost use Rattle.rosenbrock.specs.Stepper.{oneMore, tallied, noStatistics, needed, trimmed, by-value, attempt, attempt-to, supply, fail, accept, reject, inject-derivative, reset, nextBy, stepped};
-ghost use Rattle.rosenbrock.specs.Contracts.{marksBy, answerAfter, outcomeAfter, systemOf, nextOf, madeBy, makingOf};
+ghost use Rattle.rosenbrock.specs.Contracts.{marksBy, answerAfter, outcomeAfter, systemOf, nextOf, replied, repliedAttempt, refusedBy, madeBy, makingOf};
 use attempts::Ask;
 use attempts::Counted;
 use attempts::Ending;
@@ -53,6 +53,13 @@ pub enum Answer {
 pub struct Outcome {
     pub stepper: RosenbrockStepper,
     pub answer: Answer,
+}
+
+// What a call that opens or continues an attempt hands back before the record is moved: a refusal,
+// which changes nothing, or where the open attempt stopped.
+pub enum Reply {
+    Refused(u32),
+    Stopped(Stop),
 }
 
 // A new stepper, or the number of a refusal.
@@ -298,6 +305,16 @@ fn settled(fixed: Fixed, progress: Progress, statistics: StepStatistics, stop: S
     Outcome { stepper, answer }
 }
 
+// The number of a refusal that changes nothing, and 0 where the attempt stopped.
+pub fn refused_by(reply: Reply) -> u32
+    ensures { λ r. ⌜ r ≡ refusedBy reply ⌝ }
+{
+    match reply {
+        Reply::Refused(number) => number,
+        Reply::Stopped(stop) => 0,
+    }
+}
+
 fn no_statistics() -> StepStatistics
     ensures { λ r. ⌜ r ≡ noStatistics ⌝ }
 {
@@ -357,23 +374,19 @@ impl RosenbrockStepper {
         state: &[f64],
         work: &mut [f64],
         pivots: &mut [usize],
-    ) -> Outcome
+    ) -> Reply
         requires { ⌜ shapeFits (self .fixed .n) (self .fixed .s) (length (now state)) (min (neededWork (self .fixed .n) (self .fixed .s)) (length (now work))) (length (now pivots)) ≡ true ⌝ }
-        ensures { λ r. ⌜ nextOf r (now (state .entry)) (now (work .exit)) (now (pivots .exit))
+        ensures { λ r. ⌜ nextOf (repliedAttempt self step «host_jacobian» «host_time_partial» r) (now (state .entry)) (now (work .exit)) (now (pivots .exit))
             ≡ (let m = lending (now (state .entry)) (now (work .entry)) (now (pivots .entry)) in
             nextBy self m (attemptBy (self .fixed) (now (file .entry)) step «host_jacobian» «host_time_partial» (self .progress) (trimmed (needed (self .fixed)) m))) ⌝ }
     {
         let fixed = self.fixed;
         let before = self.progress;
-        let statistics = self.statistics;
         let n = fixed.n;
         let s = fixed.s;
         let number = refusals::step_refusal(before, step);
         if number != 0 {
-            return Outcome {
-                stepper: self,
-                answer: Answer::Refused(number),
-            };
+            return Reply::Refused(number);
         }
         let need = refusals::needed_work(n, s);
         let progress = opening(before, step, host_jacobian, host_time_partial);
@@ -381,7 +394,70 @@ impl RosenbrockStepper {
         let memo = progress.memo;
         let marks = marks_of(memo, true);
         let stop = evaluations::start(setting, file, state, &mut work[..need], pivots, marks);
-        settled(fixed, progress, statistics, stop)
+        Reply::Stopped(stop)
+    }
+
+    // An attempt as far as the record is still the one before it.
+    pub fn attempted(
+        self,
+        file: &[u8],
+        step: f64,
+        host_jacobian: bool,
+        host_time_partial: bool,
+        state: &[f64],
+        work: &mut [f64],
+        pivots: &mut [usize],
+    ) -> Reply
+        ensures { λ r. ⌜ nextOf (repliedAttempt self step «host_jacobian» «host_time_partial» r) (now (state .entry)) (now (work .exit)) (now (pivots .exit))
+            ≡ stepped (attempt (now (file .entry)) step «host_jacobian» «host_time_partial») (systemOf self (now (state .entry)) (now (work .entry)) (now (pivots .entry))) ⌝ }
+    {
+        let fixed = self.fixed;
+        let progress = self.progress;
+        let number = refusals::attempt_refusal(
+            fixed,
+            progress,
+            file,
+            state.len(),
+            work.len(),
+            pivots.len(),
+        );
+        if number != 0 {
+            return Reply::Refused(number);
+        }
+        self.attempt_by(
+            file,
+            step,
+            host_jacobian,
+            host_time_partial,
+            state,
+            work,
+            pivots,
+        )
+    }
+
+    // The record after such a reply, and the answer.
+    pub fn replied_attempt(
+        self,
+        step: f64,
+        host_jacobian: bool,
+        host_time_partial: bool,
+        reply: Reply,
+    ) -> Outcome
+        ensures { λ r. ⌜ r ≡ repliedAttempt self step «host_jacobian» «host_time_partial» reply ⌝ }
+    {
+        let fixed = self.fixed;
+        let before = self.progress;
+        let statistics = self.statistics;
+        match reply {
+            Reply::Refused(number) => Outcome {
+                stepper: self,
+                answer: Answer::Refused(number),
+            },
+            Reply::Stopped(stop) => {
+                let progress = opening(before, step, host_jacobian, host_time_partial);
+                settled(fixed, progress, statistics, stop)
+            },
+        }
     }
 
     // Opens an attempt over a step.
@@ -398,23 +474,7 @@ impl RosenbrockStepper {
         ensures { λ r. ⌜ nextOf r (now (state .entry)) (now (work .exit)) (now (pivots .exit))
             ≡ stepped (attempt (now (file .entry)) step «host_jacobian» «host_time_partial») (systemOf self (now (state .entry)) (now (work .entry)) (now (pivots .entry))) ⌝ }
     {
-        let fixed = self.fixed;
-        let progress = self.progress;
-        let number = refusals::attempt_refusal(
-            fixed,
-            progress,
-            file,
-            state.len(),
-            work.len(),
-            pivots.len(),
-        );
-        if number != 0 {
-            return Outcome {
-                stepper: self,
-                answer: Answer::Refused(number),
-            };
-        }
-        self.attempt_by(
+        let reply = self.attempted(
             file,
             step,
             host_jacobian,
@@ -422,7 +482,8 @@ impl RosenbrockStepper {
             state,
             work,
             pivots,
-        )
+        );
+        self.replied_attempt(step, host_jacobian, host_time_partial, reply)
     }
 
     // Opens an attempt over a proposed step, cut at the endpoint.
@@ -458,15 +519,18 @@ impl RosenbrockStepper {
             };
         }
         match stepping::endpoint_step(time, endpoint, proposal) {
-            Endpoint::Step(step) => self.attempt_by(
-                file,
-                step,
-                host_jacobian,
-                host_time_partial,
-                state,
-                work,
-                pivots,
-            ),
+            Endpoint::Step(step) => {
+                let reply = self.attempt_by(
+                    file,
+                    step,
+                    host_jacobian,
+                    host_time_partial,
+                    state,
+                    work,
+                    pivots,
+                );
+                self.replied_attempt(step, host_jacobian, host_time_partial, reply)
+            },
             Endpoint::Refused(number) => Outcome {
                 stepper: self,
                 answer: Answer::Refused(number),
@@ -474,21 +538,20 @@ impl RosenbrockStepper {
         }
     }
 
-    // Answers what is asked, and goes on to the next request, a refusal or the step.
-    pub fn supply(
+    // A supply as far as the record is still the one before it.
+    pub fn supplied(
         self,
         file: &[u8],
         values: &[f64],
         state: &[f64],
         work: &mut [f64],
         pivots: &mut [usize],
-    ) -> Outcome
-        ensures { λ r. ⌜ nextOf r (now (state .entry)) (now (work .exit)) (now (pivots .exit))
+    ) -> Reply
+        ensures { λ r. ⌜ nextOf (replied self r) (now (state .entry)) (now (work .exit)) (now (pivots .exit))
             ≡ stepped (supply (now (file .entry)) (now (values .entry))) (systemOf self (now (state .entry)) (now (work .entry)) (now (pivots .entry))) ⌝ }
     {
         let fixed = self.fixed;
         let progress = self.progress;
-        let statistics = self.statistics;
         let n = fixed.n;
         let s = fixed.s;
         let request = progress.request;
@@ -504,10 +567,7 @@ impl RosenbrockStepper {
             pivots,
         );
         if number != 0 {
-            return Outcome {
-                stepper: self,
-                answer: Answer::Refused(number),
-            };
+            return Reply::Refused(number);
         }
         let need = refusals::needed_work(n, s);
         let setting = setting_of(fixed, progress);
@@ -523,7 +583,39 @@ impl RosenbrockStepper {
             ask,
             values,
         );
-        settled(fixed, progress, statistics, stop)
+        Reply::Stopped(stop)
+    }
+
+    // The record after such a reply, and the answer.
+    pub fn replied(self, reply: Reply) -> Outcome
+        ensures { λ r. ⌜ r ≡ replied self reply ⌝ }
+    {
+        let fixed = self.fixed;
+        let progress = self.progress;
+        let statistics = self.statistics;
+        match reply {
+            Reply::Refused(number) => Outcome {
+                stepper: self,
+                answer: Answer::Refused(number),
+            },
+            Reply::Stopped(stop) => settled(fixed, progress, statistics, stop),
+        }
+    }
+
+    // Answers what is asked, and goes on to the next request, a refusal or the step.
+    pub fn supply(
+        self,
+        file: &[u8],
+        values: &[f64],
+        state: &[f64],
+        work: &mut [f64],
+        pivots: &mut [usize],
+    ) -> Outcome
+        ensures { λ r. ⌜ nextOf r (now (state .entry)) (now (work .exit)) (now (pivots .exit))
+            ≡ stepped (supply (now (file .entry)) (now (values .entry))) (systemOf self (now (state .entry)) (now (work .entry)) (now (pivots .entry))) ⌝ }
+    {
+        let reply = self.supplied(file, values, state, work, pivots);
+        self.replied(reply)
     }
 
     pub fn accept(self, state: &mut [f64], work: &[f64], pivots: &[usize]) -> Outcome

@@ -2,7 +2,7 @@
 use borrow.Author.Needs.{needs}
 use denote.Ref.{now}
 use Rattle.refusals.proofs.Fitting.{shape-fits}
-use Rattle.rosenbrock.proofs.Attempts.{attempt-shape, attempt-to-refused, towards-step, towards-refused}
+use Rattle.rosenbrock.proofs.Attempts.{by-reply, attempt-shape, attempt-to-refused, towards-step, towards-refused}
 use Rattle.rosenbrock.proofs.RosenbrockStepper.attempt_to.Statement.{statement}
 use Rattle.rosenbrock.proofs.RosenbrockStepper.attempt_to.Tie as tie
 
@@ -21,6 +21,9 @@ enum-known-step c = search needs
 attempt-by-requires : tie.Need-attempt-by-requires
 attempt-by-requires c κs = let a = c .before .before .before .before .before .before .before .before .before .before .before .before .before .before .args in shape-fits _ _ _ _ _ (attempt-shape (a .self) (now (a .state)) (now (a .work)) (now (a .pivots)) (now (a .file)) (a .host-jacobian) (a .host-time-partial) (c .before .before .before .before .before .before .before .attempt-refusal .ensures) (c .before .before .before .before .before .before .if1 .left))
 
+replied-attempt-requires : tie.Need-replied-attempt-requires
+replied-attempt-requires c κs = tt
+
 enum-known-number : tie.Need-enum-known-number
 enum-known-number c = search needs
 
@@ -31,7 +34,7 @@ same-length-2 : tie.Need-same-length-2
 same-length-2 c = search needs
 
 returns-2 : tie.Need-returns-2
-returns-2 c = let a = c .before .before .before .before .before .before .before .before .before .before .before .before .before .before .before .before .before .before .before .args in towards-step (a .self) (now (a .state)) (now (a .work)) (now (a .pivots)) (now (a .file)) (a .host-jacobian) (a .host-time-partial) (c .before .before .before .before .before .before .before .before .before .before .before .before .attempt-refusal .ensures) (a .endpoint) (a .proposal) (c .before .before .before .before .before .before .before .before .before .before .before .if1 .left) (c .before .before .before .before .before .before .before .before .before .before .endpoint-step .ensures) (c .before .before .before .before .before .before .before .before .step .given .1) (c .before .before .before .before .attempt-by .ensures)
+returns-2 c = let a = c .before .before .before .before .before .before .before .before .before .before .before .before .before .before .before .before .before .before .before .before .args in by-reply _ _ _ (c .replied-attempt .ensures) (towards-step (a .self) (now (a .state)) (now (a .work)) (now (a .pivots)) (now (a .file)) (a .host-jacobian) (a .host-time-partial) (c .before .before .before .before .before .before .before .before .before .before .before .before .before .attempt-refusal .ensures) (a .endpoint) (a .proposal) (c .before .before .before .before .before .before .before .before .before .before .before .before .if1 .left) (c .before .before .before .before .before .before .before .before .before .before .before .endpoint-step .ensures) (c .before .before .before .before .before .before .before .before .before .step .given .1) (c .before .before .before .before .before .attempt-by .ensures))
 
 returns-3 : tie.Need-returns-3
 returns-3 c = let a = c .before .before .before .before .before .before .before .before .before .before .before .before .args in towards-refused (a .self) (now (a .state)) (now (a .work)) (now (a .pivots)) (now (a .file)) (a .host-jacobian) (a .host-time-partial) (c .before .before .before .before .before .attempt-refusal .ensures) (a .endpoint) (a .proposal) (c .before .before .before .before .if1 .left) (c .before .before .before .endpoint-step .ensures) (c .before .number .given .1)
@@ -45,6 +48,7 @@ attempt-to-spec =
     endpoint-step-requires
     enum-known-step
     attempt-by-requires
+    replied-attempt-requires
     enum-known-number
     same-length
     same-length-2
