@@ -6,7 +6,7 @@ use native.Mathlib.Numerals.{add-one}
 use native.Mathlib.Nat.{suc-mul, mul-le-mul-right}
 use mathlib.Core.Path.{_≡_, refl, sym, ap, _∙_, subst}
 use mathlib.Core.Bool.{Bool, true, false, not, _&&_}
-use mathlib.Core.List.{List}
+use mathlib.Core.List.{List, []}
 use lib.ListN.{length, getD}
 use lib.Dec.{ltb, eqb}
 use lib.Ieee.{Float, eq}
@@ -31,10 +31,12 @@ use Rattle.attempts.specs.declared.StageOutcome.{StageOutcome}
 use Rattle.attempts.specs.declared.FactorOutcome.{FactorOutcome}
 use Rattle.attempts.specs.declared.FactorOutcome.the-variants as outcome
 use Rattle.attempts.specs.declared.FactorOutcome.the-variants.{Unfactored, Solved}
+use Rattle.attempts.specs.declared.Halt.{Halt}
 use Rattle.attempts.specs.declared.Halt.the-variants as halts
+use Rattle.attempts.specs.declared.Moved.{Moved}
 use Rattle.attempts.specs.Marks.{withCaches, countingFactorization, countingSolve, counting}
-use Rattle.attempts.specs.Attempt.{Given, Scratch, Stopped, scratch, onMarks, refuse, choose, provided, show}
-use Rattle.attempts.specs.Calls.{haltStop, movedMarks, movedStop, movedBy, stageStop, factorMoved, factorStop}
+use Rattle.attempts.specs.Attempt.{Given, Scratch, Stopped, scratch, stopped, onMarks, halt, refuse, ask, askRhs, choose, provided, show}
+use Rattle.attempts.specs.Calls.{haltStop, movedMarks, movedStop, stopBy, movedBy, stageStop, factorMoved, factorStop}
 
 -- ---- one test
 
@@ -140,6 +142,22 @@ module _ (r : StageOutcome) (x : Scratch) where
   pub solved-stop : factorStop (Solved r) x ≡ stageStop r (onMarks (counting countingSolve) (onMarks (counting countingFactorization) x))
   unfolding movedStop movedMarks factorMoved movedBy onMarks withCaches counting countingFactorization countingSolve
   solved-stop = refl
+
+halt-stops : (h : Halt) (m : Marks) (w : List Float) (p : List ℕ) → stopped (haltStop h (scratch m [] []) .stop) w p ≡ haltStop h (scratch m w p)
+unfolding haltStop askRhs ask refuse halt onMarks
+halt-stops (halts.Derivative time) m w p = refl
+halt-stops (halts.Jacobian time) m w p = refl
+halt-stops (halts.TimePartial time) m w p = refl
+halt-stops (halts.FirstProbe two first second) m w p = refl
+halt-stops (halts.SecondProbe time) m w p = refl
+halt-stops (halts.Column k time) m w p = refl
+halt-stops (halts.Stage i time) m w p = refl
+halt-stops (halts.Ends k) m w p = refl
+halt-stops (halts.Shows error) m w p = refl
+
+pub moved-stops : (r : Moved) (m : Marks) (w : List Float) (p : List ℕ) → stopped (stopBy r m) w p ≡ movedStop r (scratch m w p)
+unfolding stopBy movedStop onMarks
+moved-stops r m w p = halt-stops (r .halt) (movedMarks r m) w p
 
 -- ---- sizes
 

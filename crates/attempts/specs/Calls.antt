@@ -2,7 +2,7 @@
 use Prim.Native.Nat.{ℕ, _≤_, _<_}
 use mathlib.Core.Path.{_≡_}
 use mathlib.Core.Bool.{Bool, true, false, _||_}
-use mathlib.Core.List.{List}
+use mathlib.Core.List.{List, []}
 use lib.ListN.{getD}
 use lib.Ieee.{Float}
 use Rattle.time_difference.specs.Policy.{defaultPolicy}
@@ -89,6 +89,10 @@ movedMarks r m =
 -- the same with the halt
 unfoldable pub movedStop : Moved → Scratch → Stopped
 movedStop r x = haltStop (r .halt) (onMarks (movedMarks r) x)
+
+-- the memory is not read for it
+unfoldable pub stopBy : Moved → Marks → Stop
+stopBy r m = movedStop r (scratch m [] []) .stop
 
 -- what the matrix and the stages move: no cache, and no Jacobian
 unfoldable pub movedBy : Bool → Bool → Halt → Moved

@@ -20,13 +20,15 @@ use Rattle.tableau.specs.File.{tableauOf}
 use Rattle.stages.specs.Layout.{neededWork}
 use Rattle.attempts.specs.declared.Setting.{Setting}
 use Rattle.attempts.specs.declared.Memo.{Memo}
-use Rattle.attempts.specs.declared.Marks.{Marks}
+use Rattle.attempts.specs.declared.Counted.{Counted}
+use Rattle.attempts.specs.declared.Moved.{Moved}
 use Rattle.attempts.specs.declared.Ask.{Ask}
 use Rattle.attempts.specs.declared.Ending.{Ending}
 use Rattle.attempts.specs.declared.Ending.the-variants.{Asks, Ends, Shows}
-use Rattle.attempts.specs.declared.Stop.{Stop}
 use Rattle.attempts.specs.Attempt.{Stopped, given, scratch, stopped, wanted, start, resume}
-use Rattle.attempts.specs.Calls.{Sizes, Answers}
+use Rattle.attempts.specs.Marks.{nothingCounted, oneAttempt}
+use Rattle.attempts.specs.Calls.{Sizes, Answers, movedStop, stopBy, marked}
+use Rattle.attempts.proofs.Links.{moved-stops}
 use Rattle.attempts.proofs.Requests.{AskInRange}
 use Rattle.refusals.specs.declared.Fixed.{Fixed}
 use Rattle.refusals.specs.declared.Progress.{Progress}
@@ -126,17 +128,17 @@ module _ (y : RosenbrockStepper) (state work : List Float) (pivots : List ℕ) w
       unfolding attemptBy repliedAttempt
       step-refused h = guard-refuses y state work pivots _ _ e h
 
-      pub step-opened : k ≡ 0 → {x : Progress} {g : Setting} {marks : Marks} {need : ℕ} {stop : Stop} {w : List Float} {p : List ℕ}
-          → need ≡ neededWork (y .fixed .n) (y .fixed .s) → x ≡ opening step jacobian partial (y .progress) → g ≡ settingBy (y .fixed) x → marks ≡ marksBy (x .memo) true
-          → stopped stop w p ≡ start (given g (tableauOf file) state) (scratch marks (take need work) pivots)
-          → nextOf (repliedAttempt y step jacobian partial (reply.Stopped stop)) state (w ++ drop need work) p ≡ nextBy y m (attemptBy (y .fixed) file step jacobian partial (y .progress) cut-m)
+      pub step-opened : k ≡ 0 → {x : Progress} {g : Setting} {need : ℕ} (moved : Moved) (w : List Float) (p : List ℕ)
+          → need ≡ neededWork (y .fixed .n) (y .fixed .s) → x ≡ opening step jacobian partial (y .progress) → g ≡ settingBy (y .fixed) x
+          → ((c : Counted) → movedStop moved (scratch (marked (x .memo) c) w p) ≡ start (given g (tableauOf file) state) (scratch (marked (x .memo) c) (take need work) pivots))
+          → nextOf (repliedAttempt y step jacobian partial (reply.Moved moved)) state (w ++ drop need work) p ≡ nextBy y m (attemptBy (y .fixed) file step jacobian partial (y .progress) cut-m)
       unfolding attemptBy opened givenBy scratchBy marksBy trimmed needed settle repliedAttempt
-      step-opened z {need = need} a b c d f =
+      step-opened z {x} moved w p a b c f =
           let fx = y .fixed in
           let X = opening step jacobian partial (y .progress) in
           let c′ = c ∙ ap (settingBy fx) b in
-          let d′ = d ∙ ap (λ (x : Progress). marksBy (x .memo) true) b in
-          let f′ = f ∙ (λ i. start (given (c′ i) (tableauOf file) state) (scratch (d′ i) (take (a i) work) pivots)) in
+          let f′ = ap (λ (x : Progress). stopped (stopBy moved (marked (x .memo) oneAttempt)) w p) (sym b) ∙ moved-stops moved (marked (x .memo) oneAttempt) w p ∙ f oneAttempt
+          ∙ (λ i. start (given (c′ i) (tableauOf file) state) (scratch (marked (b i .memo) oneAttempt) (take (a i) work) pivots)) in
           (λ i. nextOf (outcomeAfter fx X (y .statistics) (f′ i .stop)) state (f′ i .work ++ drop (a i) work) (f′ i .pivots))
           ∙ settle-next X _ (opened-keeps fx X cut-m file .of-work)
           ∙ guard-passes y state work pivots (stepTests step (y .progress)) _ e z
@@ -227,15 +229,17 @@ module _ (y : RosenbrockStepper) (state work : List Float) (pivots : List ℕ) w
             values = wanted-values .0;
           })
 
-      pub supply-done : {g : Setting} {marks : Marks} {a : Ask} {need : ℕ} {stop : Stop} {w : List Float} {p : List ℕ}
-          → need ≡ neededWork (y .fixed .n) (y .fixed .s) → g ≡ settingBy (y .fixed) (y .progress) → marks ≡ marksBy (y .progress .memo) false → a ≡ asks
-          → stopped stop w p ≡ resume (given g (tableauOf file) state) a values (scratch marks (take need work) pivots)
-          → nextOf (replied y (reply.Stopped stop)) state (w ++ drop need work) p ≡ stepped (supply file values) (systemOf y state work pivots)
+      pub supply-done : {g : Setting} {a : Ask} {need : ℕ} (moved : Moved) (w : List Float) (p : List ℕ)
+          → need ≡ neededWork (y .fixed .n) (y .fixed .s) → g ≡ settingBy (y .fixed) (y .progress) → a ≡ asks
+          → ((c : Counted) → movedStop moved (scratch (marked (y .progress .memo) c) w p)
+          ≡ resume (given g (tableauOf file) state) a values (scratch (marked (y .progress .memo) c) (take need work) pivots))
+          → nextOf (replied y (reply.Moved moved)) state (w ++ drop need work) p ≡ stepped (supply file values) (systemOf y state work pivots)
       unfolding result called supplyOf givenBy scratchBy marksBy trimmed needed settle replied
-      supply-done a b c d f =
+      supply-done moved w p a b d f =
           let fx = y .fixed in
           let x = y .progress in
-          let f′ = f ∙ (λ i. resume (given (b i) (tableauOf file) state) (d i) values (scratch (c i) (take (a i) work) pivots)) in
+          let m₀ = marked (x .memo) nothingCounted in
+          let f′ = moved-stops moved m₀ w p ∙ f nothingCounted ∙ (λ i. resume (given (b i) (tableauOf file) state) (d i) values (scratch m₀ (take (a i) work) pivots)) in
           (λ i. nextOf (outcomeAfter fx x (y .statistics) (f′ i .stop)) state (f′ i .work ++ drop (a i) work) (f′ i .pivots))
           ∙ settle-next x _ (resumed-keeps fx x cut-m file asks values .of-work)
           ∙ passed-next y state work pivots (supply file values) _ _ refl answerable z

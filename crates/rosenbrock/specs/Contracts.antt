@@ -1,7 +1,7 @@
 -- What the code hands back, in the terms of the definitions: record and lent memory as a system, and the answer with what it asks or shows.
 -- Definitions only.
 use Prim.Native.Nat.{ℕ}
-use mathlib.Core.Bool.{Bool, false}
+use mathlib.Core.Bool.{Bool, true, false}
 use mathlib.Core.List.{List}
 use lib.Ieee.{Float}
 use Rattle.time_difference.specs.declared.TimeDifferencePolicy.{TimeDifferencePolicy}
@@ -10,6 +10,7 @@ use Rattle.attempts.specs.declared.Marks.{Marks}
 use Rattle.attempts.specs.declared.Ending.{Ending}
 use Rattle.attempts.specs.declared.Ending.the-variants.{Asks, Ends, Shows}
 use Rattle.attempts.specs.declared.Stop.{Stop}
+use Rattle.attempts.specs.Calls.{stopBy}
 use Rattle.refusals.specs.declared.Fixed.{Fixed}
 use Rattle.refusals.specs.declared.Progress.{Progress}
 use Rattle.rosenbrock.specs.declared.StepStatistics.{StepStatistics}
@@ -106,14 +107,16 @@ outcomeAfter fx x t r =
 -- what a reply says of the record it was given for: a refusal leaves it, and where the attempt stopped it goes on
 unfoldable pub replied : RosenbrockStepper → Reply → Outcome
 replied y (reply.Refused k) = record { stepper = y; answer = Refused k }
-replied y (reply.Stopped r) = outcomeAfter (y .fixed) (y .progress) (y .statistics) r
+replied y (reply.Moved r) = outcomeAfter (y .fixed) (y .progress) (y .statistics) (stopBy r (marksBy (y .progress .memo) false))
 
 -- the same for an attempt, which opens the record first
 unfoldable pub repliedAttempt : RosenbrockStepper → Float → Bool → Bool → Reply → Outcome
 repliedAttempt y step jacobian partial (reply.Refused k) = record { stepper = y; answer = Refused k }
-repliedAttempt y step jacobian partial (reply.Stopped r) = outcomeAfter (y .fixed) (opening step jacobian partial (y .progress)) (y .statistics) r
+repliedAttempt y step jacobian partial (reply.Moved r) =
+    let x = opening step jacobian partial (y .progress) in
+    outcomeAfter (y .fixed) x (y .statistics) (stopBy r (marksBy (x .memo) true))
 
 -- the number of a refusal that leaves the record
 unfoldable pub refusedBy : Reply → ℕ
 refusedBy (reply.Refused k) = k
-refusedBy (reply.Stopped r) = 0
+refusedBy (reply.Moved r) = 0

@@ -4,6 +4,7 @@ ghost use mathlib.Core.Bool.{true};
 ghost use Prim.Native.Nat.{min, _*_};
 ghost use lib.ListN.{length};
 ghost use Rattle.stages.specs.Layout.{neededWork};
+ghost use Rattle.attempts.specs.Calls.{stopBy};
 ghost use Rattle.refusals.specs.Requests.{askOf, askNumber, askStage, requestAfter, stageAfter};
 ghost use Rattle.refusals.specs.Tests.{shapeFits};
 ghost use Rattle.refusals.specs.Answers.{lending};
@@ -15,6 +16,7 @@ use attempts::Counted;
 use attempts::Ending;
 use attempts::Marks;
 use attempts::Memo;
+use attempts::Moved;
 use attempts::Setting;
 use attempts::Stop;
 use refusals::Fixed;
@@ -59,7 +61,7 @@ pub struct Outcome {
 // which changes nothing, or where the open attempt stopped.
 pub enum Reply {
     Refused(u32),
-    Stopped(Stop),
+    Moved(Moved),
 }
 
 // A new stepper, or the number of a refusal.
@@ -276,6 +278,14 @@ fn marks_of(memo: Memo, attempts: bool) -> Marks
     Marks { memo, counted }
 }
 
+// How an open attempt stops, by what it moved; an attempt counts itself.
+fn stop_of(memo: Memo, attempt: bool, moved: Moved) -> Stop
+    ensures { λ r. ⌜ r ≡ stopBy moved (marksBy memo attempt) ⌝ }
+{
+    let marks = marks_of(memo, attempt);
+    attempts::stop_by(marks, moved)
+}
+
 // The record where an open attempt stopped, and the answer.
 fn settled(fixed: Fixed, progress: Progress, statistics: StepStatistics, stop: Stop) -> Outcome
     ensures { λ r. ⌜ r ≡ outcomeAfter fixed progress statistics stop ⌝ }
@@ -311,7 +321,7 @@ pub fn refused_by(reply: Reply) -> u32
 {
     match reply {
         Reply::Refused(number) => number,
-        Reply::Stopped(stop) => 0,
+        Reply::Moved(moved) => 0,
     }
 }
 
@@ -392,9 +402,8 @@ impl RosenbrockStepper {
         let progress = opening(before, step, host_jacobian, host_time_partial);
         let setting = setting_of(fixed, progress);
         let memo = progress.memo;
-        let marks = marks_of(memo, true);
-        let stop = evaluations::start(setting, file, state, &mut work[..need], pivots, marks);
-        Reply::Stopped(stop)
+        let moved = evaluations::start(setting, file, state, &mut work[..need], pivots, memo);
+        Reply::Moved(moved)
     }
 
     // An attempt as far as the record is still the one before it.
@@ -453,8 +462,10 @@ impl RosenbrockStepper {
                 stepper: self,
                 answer: Answer::Refused(number),
             },
-            Reply::Stopped(stop) => {
+            Reply::Moved(moved) => {
                 let progress = opening(before, step, host_jacobian, host_time_partial);
+                let memo = progress.memo;
+                let stop = stop_of(memo, true, moved);
                 settled(fixed, progress, statistics, stop)
             },
         }
@@ -571,19 +582,18 @@ impl RosenbrockStepper {
         }
         let need = refusals::needed_work(n, s);
         let setting = setting_of(fixed, progress);
-        let marks = marks_of(memo, false);
         let ask = ask_of(request, stage);
-        let stop = evaluations::resume(
+        let moved = evaluations::resume(
             setting,
             file,
             state,
             &mut work[..need],
             pivots,
-            marks,
+            memo,
             ask,
             values,
         );
-        Reply::Stopped(stop)
+        Reply::Moved(moved)
     }
 
     // The record after such a reply, and the answer.
@@ -593,12 +603,16 @@ impl RosenbrockStepper {
         let fixed = self.fixed;
         let progress = self.progress;
         let statistics = self.statistics;
+        let memo = progress.memo;
         match reply {
             Reply::Refused(number) => Outcome {
                 stepper: self,
                 answer: Answer::Refused(number),
             },
-            Reply::Stopped(stop) => settled(fixed, progress, statistics, stop),
+            Reply::Moved(moved) => {
+                let stop = stop_of(memo, false, moved);
+                settled(fixed, progress, statistics, stop)
+            },
         }
     }
 

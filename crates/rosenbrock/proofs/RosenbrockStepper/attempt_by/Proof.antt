@@ -23,17 +23,14 @@ opening-requires c κs = tt
 setting-of-requires : tie.Need-setting-of-requires
 setting-of-requires c κs = tt
 
-marks-of-requires : tie.Need-marks-of-requires
-marks-of-requires c κs = tt
-
 slice-relend-prefix-start : tie.Need-slice-relend-prefix-start
-slice-relend-prefix-start c = let a = c .before .before .before .before .before .before .before .before .before .before .before .before .before .args in work-lent (a .self) (now (a .state)) (now (a .work)) (now (a .pivots)) (shape-of _ _ _ _ _ (c .before .before .before .before .before .before .before .before .before .before .before .before .before .pre)) (c .before .before .before .opening .result) (c .before .before .setting-of .ensures) (c .before .before .before .before .needed-work .ensures)
+slice-relend-prefix-start c = let a = c .before .before .before .before .before .before .before .before .before .before .before .before .args in work-lent (a .self) (now (a .state)) (now (a .work)) (now (a .pivots)) (shape-of _ _ _ _ _ (c .before .before .before .before .before .before .before .before .before .before .before .before .pre)) (c .before .before .opening .result) (c .before .setting-of .ensures) (c .before .before .before .needed-work .ensures)
 
 slice-aggregate-start : tie.Need-slice-aggregate-start
-slice-aggregate-start c = let a = c .before .before .before .before .before .before .before .before .before .before .before .before .before .before .args in sym (length-take-le _ _ (work-lent (a .self) (now (a .state)) (now (a .work)) (now (a .pivots)) (shape-of _ _ _ _ _ (c .before .before .before .before .before .before .before .before .before .before .before .before .before .before .pre)) (c .before .before .before .before .opening .result) (c .before .before .before .setting-of .ensures) (c .before .before .before .before .before .needed-work .ensures)))
+slice-aggregate-start c = let a = c .before .before .before .before .before .before .before .before .before .before .before .before .before .args in sym (length-take-le _ _ (work-lent (a .self) (now (a .state)) (now (a .work)) (now (a .pivots)) (shape-of _ _ _ _ _ (c .before .before .before .before .before .before .before .before .before .before .before .before .before .pre)) (c .before .before .before .opening .result) (c .before .before .setting-of .ensures) (c .before .before .before .before .needed-work .ensures)))
 
 start-requires : tie.Need-start-requires
-start-requires c κs = let a = c .before .before .before .before .before .before .before .before .before .before .before .before .before .before .before .args in sized (a .self) (now (a .state)) (now (a .work)) (now (a .pivots)) (shape-of _ _ _ _ _ (c .before .before .before .before .before .before .before .before .before .before .before .before .before .before .before .pre)) (c .before .before .before .before .before .opening .result) (c .before .before .before .before .setting-of .ensures) (c .before .before .before .before .before .before .needed-work .ensures)
+start-requires c κs = let a = c .before .before .before .before .before .before .before .before .before .before .before .before .before .before .args in sized (a .self) (now (a .state)) (now (a .work)) (now (a .pivots)) (shape-of _ _ _ _ _ (c .before .before .before .before .before .before .before .before .before .before .before .before .before .before .pre)) (c .before .before .before .before .opening .result) (c .before .before .before .setting-of .ensures) (c .before .before .before .before .before .needed-work .ensures)
 
 same-length : tie.Need-same-length
 same-length c = search needs
@@ -42,21 +39,7 @@ same-length-2 : tie.Need-same-length-2
 same-length-2 c = search needs
 
 returns-2 : tie.Need-returns-2
-returns-2 c = let a = c .before .before .before .before .before .before .before .before .before .before .before .before .before .before .before .before .before .before .before .before .args in step-opened (a .self) (now (a .state)) (now (a .work)) (now (a .pivots)) (now (a .file)) (a .host-jacobian) (a .host-time-partial) (a .step) (c .before .before .before .before .before .before .before .before .before .before .before .before .before .step-refusal .ensures) (c .before .before .before .before .before .before .before .before .before .before .before .before .if1 .left) (c .before .before .before .before .before .before .before .before .before .before .before .needed-work .ensures) (c .before .before .before .before .before .before .before .before .before .before .opening .ensures) (c .before .before .before .before .before .before .before .before .before .setting-of .ensures) (c .before .before .before .before .before .before .before .marks-of .ensures) (c .before .before .before .before .start .ensures)
+returns-2 c = let a = c .before .before .before .before .before .before .before .before .before .before .before .before .before .before .before .before .before .before .before .args in step-opened (a .self) (now (a .state)) (now (a .work)) (now (a .pivots)) (now (a .file)) (a .host-jacobian) (a .host-time-partial) (a .step) (c .before .before .before .before .before .before .before .before .before .before .before .before .step-refusal .ensures) (c .before .before .before .before .before .before .before .before .before .before .before .if1 .left) _ _ _ (c .before .before .before .before .before .before .before .before .before .before .needed-work .ensures) (c .before .before .before .before .before .before .before .before .before .opening .ensures) (c .before .before .before .before .before .before .before .before .setting-of .ensures) (c .before .before .before .before .start .ensures)
 
 pub attempt-by-spec : {M : Type 1} → statement M
-attempt-by-spec =
-    tie.close
-    (tie.spec
-    step-refusal-requires
-    returns
-    needed-work-requires
-    opening-requires
-    setting-of-requires
-    marks-of-requires
-    slice-relend-prefix-start
-    slice-aggregate-start
-    start-requires
-    same-length
-    same-length-2
-    returns-2)
+attempt-by-spec = tie.close (tie.spec step-refusal-requires returns needed-work-requires opening-requires setting-of-requires slice-relend-prefix-start slice-aggregate-start start-requires same-length same-length-2 returns-2)

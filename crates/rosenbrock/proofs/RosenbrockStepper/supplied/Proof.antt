@@ -22,20 +22,17 @@ needed-work-requires c κs = let a = c .before .before .before .before .before .
 setting-of-requires : tie.Need-setting-of-requires
 setting-of-requires c κs = tt
 
-marks-of-requires : tie.Need-marks-of-requires
-marks-of-requires c κs = tt
-
 ask-of-requires : tie.Need-ask-of-requires
 ask-of-requires c κs = tt
 
 slice-relend-prefix-resume : tie.Need-slice-relend-prefix-resume
-slice-relend-prefix-resume c = let a = c .before .before .before .before .before .before .before .before .before .before .before .before .before .before .before .args in work-lent (a .self) (now (a .state)) (now (a .work)) (now (a .pivots)) (supply-shape (a .self) (now (a .state)) (now (a .work)) (now (a .pivots)) (now (a .file)) (now (a .values)) (c .before .before .before .before .before .supply-refusal .ensures) (c .before .before .before .before .if1 .left)) (a .self .progress) (c .before .before .setting-of .ensures) (c .before .before .before .needed-work .ensures)
+slice-relend-prefix-resume c = let a = c .before .before .before .before .before .before .before .before .before .before .before .before .before .before .args in work-lent (a .self) (now (a .state)) (now (a .work)) (now (a .pivots)) (supply-shape (a .self) (now (a .state)) (now (a .work)) (now (a .pivots)) (now (a .file)) (now (a .values)) (c .before .before .before .before .supply-refusal .ensures) (c .before .before .before .if1 .left)) (a .self .progress) (c .before .setting-of .ensures) (c .before .before .needed-work .ensures)
 
 slice-aggregate-resume : tie.Need-slice-aggregate-resume
-slice-aggregate-resume c = let a = c .before .before .before .before .before .before .before .before .before .before .before .before .before .before .before .before .args in sym (length-take-le _ _ (work-lent (a .self) (now (a .state)) (now (a .work)) (now (a .pivots)) (supply-shape (a .self) (now (a .state)) (now (a .work)) (now (a .pivots)) (now (a .file)) (now (a .values)) (c .before .before .before .before .before .before .supply-refusal .ensures) (c .before .before .before .before .before .if1 .left)) (a .self .progress) (c .before .before .before .setting-of .ensures) (c .before .before .before .before .needed-work .ensures)))
+slice-aggregate-resume c = let a = c .before .before .before .before .before .before .before .before .before .before .before .before .before .before .before .args in sym (length-take-le _ _ (work-lent (a .self) (now (a .state)) (now (a .work)) (now (a .pivots)) (supply-shape (a .self) (now (a .state)) (now (a .work)) (now (a .pivots)) (now (a .file)) (now (a .values)) (c .before .before .before .before .before .supply-refusal .ensures) (c .before .before .before .before .if1 .left)) (a .self .progress) (c .before .before .setting-of .ensures) (c .before .before .before .needed-work .ensures)))
 
 resume-requires : tie.Need-resume-requires
-resume-requires c κs = let a = c .before .before .before .before .before .before .before .before .before .before .before .before .before .before .before .before .before .args in let q = sized (a .self) (now (a .state)) (now (a .work)) (now (a .pivots)) (supply-shape (a .self) (now (a .state)) (now (a .work)) (now (a .pivots)) (now (a .file)) (now (a .values)) (c .before .before .before .before .before .before .before .supply-refusal .ensures) (c .before .before .before .before .before .before .if1 .left)) (a .self .progress) (c .before .before .before .before .setting-of .ensures) (c .before .before .before .before .before .needed-work .ensures) in (q .0, q .1, answers (a .self) (now (a .state)) (now (a .work)) (now (a .pivots)) (now (a .file)) (now (a .values)) (c .before .before .before .before .before .before .before .supply-refusal .ensures) (c .before .before .before .before .before .before .if1 .left) (c .before .before .before .before .setting-of .ensures) (c .before .before .ask-of .ensures))
+resume-requires c κs = let a = c .before .before .before .before .before .before .before .before .before .before .before .before .before .before .before .before .args in let q = sized (a .self) (now (a .state)) (now (a .work)) (now (a .pivots)) (supply-shape (a .self) (now (a .state)) (now (a .work)) (now (a .pivots)) (now (a .file)) (now (a .values)) (c .before .before .before .before .before .before .supply-refusal .ensures) (c .before .before .before .before .before .if1 .left)) (a .self .progress) (c .before .before .before .setting-of .ensures) (c .before .before .before .before .needed-work .ensures) in (q .0, q .1, answers (a .self) (now (a .state)) (now (a .work)) (now (a .pivots)) (now (a .file)) (now (a .values)) (c .before .before .before .before .before .before .supply-refusal .ensures) (c .before .before .before .before .before .if1 .left) (c .before .before .before .setting-of .ensures) (c .before .before .ask-of .ensures))
 
 same-length-2 : tie.Need-same-length-2
 same-length-2 c = search needs
@@ -44,22 +41,7 @@ same-length-3 : tie.Need-same-length-3
 same-length-3 c = search needs
 
 returns-2 : tie.Need-returns-2
-returns-2 c = let a = c .before .before .before .before .before .before .before .before .before .before .before .before .before .before .before .before .before .before .before .before .before .before .args in supply-done (a .self) (now (a .state)) (now (a .work)) (now (a .pivots)) (now (a .file)) (now (a .values)) (c .before .before .before .before .before .before .before .before .before .before .before .before .supply-refusal .ensures) (c .before .before .before .before .before .before .before .before .before .before .before .if1 .left) (c .before .before .before .before .before .before .before .before .before .before .needed-work .ensures) (c .before .before .before .before .before .before .before .before .before .setting-of .ensures) (c .before .before .before .before .before .before .before .before .marks-of .ensures) (c .before .before .before .before .before .before .before .ask-of .ensures) (c .before .before .before .before .resume .ensures)
+returns-2 c = let a = c .before .before .before .before .before .before .before .before .before .before .before .before .before .before .before .before .before .before .before .before .before .args in supply-done (a .self) (now (a .state)) (now (a .work)) (now (a .pivots)) (now (a .file)) (now (a .values)) (c .before .before .before .before .before .before .before .before .before .before .before .supply-refusal .ensures) (c .before .before .before .before .before .before .before .before .before .before .if1 .left) _ _ _ (c .before .before .before .before .before .before .before .before .before .needed-work .ensures) (c .before .before .before .before .before .before .before .before .setting-of .ensures) (c .before .before .before .before .before .before .before .ask-of .ensures) (c .before .before .before .before .resume .ensures)
 
 pub supplied-spec : {M : Type 1} → statement M
-supplied-spec =
-    tie.close
-    (tie.spec
-    supply-refusal-requires
-    same-length
-    returns
-    needed-work-requires
-    setting-of-requires
-    marks-of-requires
-    ask-of-requires
-    slice-relend-prefix-resume
-    slice-aggregate-resume
-    resume-requires
-    same-length-2
-    same-length-3
-    returns-2)
+supplied-spec = tie.close (tie.spec supply-refusal-requires same-length returns needed-work-requires setting-of-requires ask-of-requires slice-relend-prefix-resume slice-aggregate-resume resume-requires same-length-2 same-length-3 returns-2)
