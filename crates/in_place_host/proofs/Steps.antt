@@ -30,10 +30,9 @@ pub attempt-left : (step : Float) (jacobian partial : Bool) (y : RosenbrockStepp
 unfolding repliedAttempt
 attempt-left step jacobian partial y k = refl
 
--- the outcome that a reply tells, with its answer as numbers
-pub in-numbers : (o : Outcome) {o′ : Outcome} {r : CallAnswer} → r ≡ ofAnswer (o .answer) → o ≡ o′ → record { stepper = o .stepper; answer = r } ≡ inNumbers o′
+pub numbered : (o : Outcome) {r : CallAnswer} → r ≡ ofAnswer (o .answer) → record { stepper = o .stepper; answer = r } ≡ inNumbers o
 unfolding inNumbers
-in-numbers o e h = ap (λ (r : CallAnswer). record { stepper = o .stepper; answer = r }) e ∙ ap inNumbers h
+numbered o e = ap (λ (r : CallAnswer). record { stepper = o .stepper; answer = r }) e
 
 module _ (state work : List Float) (pivots : List ℕ) where
   by-answer : (y : RosenbrockStepper) (a : code.Answer) → handed (ofAnswer a) (systemOf y state work pivots) ≡ asNumbers (nextOf (record { stepper = y; answer = a }) state work pivots)
@@ -43,7 +42,7 @@ module _ (state work : List Float) (pivots : List ℕ) where
   by-answer y Shown = refl
   by-answer y Done = refl
 
-  pub step-handed : (o : Outcome) {r : CallAnswer} {n : Next} → r ≡ ofAnswer (o .answer) → nextOf o state work pivots ≡ n → handed r (systemOf (o .stepper) state work pivots) ≡ asNumbers n
+  step-handed : (o : Outcome) {r : CallAnswer} {n : Next} → r ≡ ofAnswer (o .answer) → nextOf o state work pivots ≡ n → handed r (systemOf (o .stepper) state work pivots) ≡ asNumbers n
   unfolding nextOf
   step-handed o e h = ap (λ (z : CallAnswer). handed z (systemOf (o .stepper) state work pivots)) e ∙ by-answer (o .stepper) (o .answer) ∙ ap asNumbers h
 

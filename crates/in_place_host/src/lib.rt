@@ -1,7 +1,8 @@
 // The calls on a stepper record that is lent by pointer, for a host in another language, under C's
 // calling convention. No logic of its own. A supply and an attempt hand back a reply before the record
 // is moved: a refusal stores nothing, and otherwise the new record is a function of the old one, read
-// where it lies, and the reply alone, so that a field that stays need not be stored.
+// where it lies, and the reply alone, so that a field that stays need not be stored. An attempt
+// towards an endpoint is made on a copy of the record, which is stored back.
 ghost use mathlib.Core.Path.{_≡_};
 ghost use Rattle.rosenbrock.specs.Stepper.{stepped};
 ghost use Rattle.rosenbrock.specs.Stepper as call;
@@ -9,6 +10,7 @@ ghost use Rattle.rosenbrock.specs.Contracts.{systemOf, replied, repliedAttempt}
 ghost use Rattle.in_place.specs.Landing.{landed};
 ghost use Rattle.in_place_host.specs.Handed.{ofAnswer, inNumbers, handed, asNumbers};
 use rosenbrock::Answer;
+use rosenbrock::Outcome;
 use rosenbrock::Reply;
 use rosenbrock::RosenbrockStepper;
 
@@ -36,6 +38,15 @@ fn call_answer(answer: Answer) -> CallAnswer
     }
 }
 
+fn in_numbers(outcome: Outcome) -> Stepped
+    ensures { λ r. ⌜ r ≡ inNumbers outcome ⌝ }
+{
+    let stepper = outcome.stepper;
+    let told = outcome.answer;
+    let answer = call_answer(told);
+    Stepped { stepper, answer }
+}
+
 // ---- by value, with the answer as numbers
 
 // The record after a reply to a supply, with the answer.
@@ -43,13 +54,7 @@ fn moved_by(stepper: RosenbrockStepper, reply: Reply) -> Stepped
     ensures { λ r. ⌜ r ≡ inNumbers (replied stepper reply) ⌝ }
 {
     let outcome = stepper.replied(reply);
-    let after = outcome.stepper;
-    let told = outcome.answer;
-    let answer = call_answer(told);
-    Stepped {
-        stepper: after,
-        answer,
-    }
+    in_numbers(outcome)
 }
 
 // The same after a reply to an attempt.
@@ -63,13 +68,7 @@ fn opened_by(
     ensures { λ r. ⌜ r ≡ inNumbers (repliedAttempt stepper step «host_jacobian» «host_time_partial» reply) ⌝ }
 {
     let outcome = stepper.replied_attempt(step, host_jacobian, host_time_partial, reply);
-    let after = outcome.stepper;
-    let told = outcome.answer;
-    let answer = call_answer(told);
-    Stepped {
-        stepper: after,
-        answer,
-    }
+    in_numbers(outcome)
 }
 
 fn attempted_to(
@@ -96,13 +95,7 @@ fn attempted_to(
         work,
         pivots,
     );
-    let after = outcome.stepper;
-    let told = outcome.answer;
-    let answer = call_answer(told);
-    Stepped {
-        stepper: after,
-        answer,
-    }
+    in_numbers(outcome)
 }
 
 // ---- on the lent record
