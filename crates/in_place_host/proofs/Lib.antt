@@ -1,2 +1,3 @@
 -- Laws that the proofs cite.
 mod Steps
+mod Locals

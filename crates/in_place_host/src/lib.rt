@@ -1,13 +1,17 @@
 // The calls on a stepper record that is lent by pointer, for a host in another language, under C's
-// calling convention: the record is copied out, the call is made by value, and the record is stored
-// back. No logic of its own.
+// calling convention. No logic of its own. A supply and an attempt hand back a reply before the record
+// is moved: a refusal stores nothing, and otherwise the new record is a function of the old one, read
+// where it lies, and the reply alone, so that a field that stays need not be stored. An attempt
+// towards an endpoint is made on a copy of the record, which is stored back.
 ghost use mathlib.Core.Path.{_≡_};
 ghost use Rattle.rosenbrock.specs.Stepper.{stepped};
 ghost use Rattle.rosenbrock.specs.Stepper as call;
-ghost use Rattle.rosenbrock.specs.Contracts.{systemOf};
+ghost use Rattle.rosenbrock.specs.Contracts.{systemOf, replied, repliedAttempt};
 ghost use Rattle.in_place.specs.Landing.{landed};
-ghost use Rattle.in_place_host.specs.Handed.{ofAnswer, handed, asNumbers};
+ghost use Rattle.in_place_host.specs.Handed.{ofAnswer, inNumbers, handed, asNumbers};
 use rosenbrock::Answer;
+use rosenbrock::Outcome;
+use rosenbrock::Reply;
 use rosenbrock::RosenbrockStepper;
 
 // kind: 0 refused, with the refusal's number; 1 asked, 2 shown, 3 done, with the number 0.
@@ -34,37 +38,37 @@ fn call_answer(answer: Answer) -> CallAnswer
     }
 }
 
+fn in_numbers(outcome: Outcome) -> Stepped
+    ensures { λ r. ⌜ r ≡ inNumbers outcome ⌝ }
+{
+    let stepper = outcome.stepper;
+    let told = outcome.answer;
+    let answer = call_answer(told);
+    Stepped { stepper, answer }
+}
+
 // ---- by value, with the answer as numbers
 
-fn attempted(
+// The record after a reply to a supply, with the answer.
+fn moved_by(stepper: RosenbrockStepper, reply: Reply) -> Stepped
+    ensures { λ r. ⌜ r ≡ inNumbers (replied stepper reply) ⌝ }
+{
+    let outcome = stepper.replied(reply);
+    in_numbers(outcome)
+}
+
+// The same after a reply to an attempt.
+fn opened_by(
     stepper: RosenbrockStepper,
-    file: &[u8],
     step: f64,
     host_jacobian: bool,
     host_time_partial: bool,
-    state: &[f64],
-    work: &mut [f64],
-    pivots: &mut [usize],
+    reply: Reply,
 ) -> Stepped
-    ensures { λ r. ⌜ handed (r .answer) (systemOf (r .stepper) (now (state .entry)) (now (work .exit)) (now (pivots .exit)))
-        ≡ asNumbers (stepped (call.attempt (now (file .entry)) step «host_jacobian» «host_time_partial») (systemOf stepper (now (state .entry)) (now (work .entry)) (now (pivots .entry)))) ⌝ }
+    ensures { λ r. ⌜ r ≡ inNumbers (repliedAttempt stepper step «host_jacobian» «host_time_partial» reply) ⌝ }
 {
-    let outcome = stepper.attempt(
-        file,
-        step,
-        host_jacobian,
-        host_time_partial,
-        state,
-        work,
-        pivots,
-    );
-    let after = outcome.stepper;
-    let told = outcome.answer;
-    let answer = call_answer(told);
-    Stepped {
-        stepper: after,
-        answer,
-    }
+    let outcome = stepper.replied_attempt(step, host_jacobian, host_time_partial, reply);
+    in_numbers(outcome)
 }
 
 fn attempted_to(
@@ -91,34 +95,7 @@ fn attempted_to(
         work,
         pivots,
     );
-    let after = outcome.stepper;
-    let told = outcome.answer;
-    let answer = call_answer(told);
-    Stepped {
-        stepper: after,
-        answer,
-    }
-}
-
-fn supplied(
-    stepper: RosenbrockStepper,
-    file: &[u8],
-    values: &[f64],
-    state: &[f64],
-    work: &mut [f64],
-    pivots: &mut [usize],
-) -> Stepped
-    ensures { λ r. ⌜ handed (r .answer) (systemOf (r .stepper) (now (state .entry)) (now (work .exit)) (now (pivots .exit)))
-        ≡ asNumbers (stepped (call.supply (now (file .entry)) (now (values .entry))) (systemOf stepper (now (state .entry)) (now (work .entry)) (now (pivots .entry)))) ⌝ }
-{
-    let outcome = stepper.supply(file, values, state, work, pivots);
-    let after = outcome.stepper;
-    let told = outcome.answer;
-    let answer = call_answer(told);
-    Stepped {
-        stepper: after,
-        answer,
-    }
+    in_numbers(outcome)
 }
 
 // ---- on the lent record
@@ -137,8 +114,7 @@ pub extern "C" fn wiqhano_stepper_attempt_in_place(
     ensures { λ r. ⌜ handed r (systemOf (now (stepper .exit)) (now (state .entry)) (now (work .exit)) (now (pivots .exit)))
         ≡ asNumbers (stepped (call.attempt (now (file .entry)) step «host_jacobian» «host_time_partial») (systemOf (now (stepper .entry)) (now (state .entry)) (now (work .entry)) (now (pivots .entry)))) ⌝ }
 {
-    let after = attempted(
-        *stepper,
+    let reply = stepper.attempted(
         file,
         step,
         host_jacobian,
@@ -147,6 +123,11 @@ pub extern "C" fn wiqhano_stepper_attempt_in_place(
         work,
         pivots,
     );
+    let number = rosenbrock::refused_by(reply);
+    if number != 0 {
+        return CallAnswer { kind: 0, number };
+    }
+    let after = opened_by(*stepper, step, host_jacobian, host_time_partial, reply);
     *stepper = after.stepper;
     after.answer
 }
@@ -193,7 +174,12 @@ pub extern "C" fn wiqhano_stepper_supply_in_place(
     ensures { λ r. ⌜ handed r (systemOf (now (stepper .exit)) (now (state .entry)) (now (work .exit)) (now (pivots .exit)))
         ≡ asNumbers (stepped (call.supply (now (file .entry)) (now (values .entry))) (systemOf (now (stepper .entry)) (now (state .entry)) (now (work .entry)) (now (pivots .entry)))) ⌝ }
 {
-    let after = supplied(*stepper, file, values, state, work, pivots);
+    let reply = stepper.supplied(file, values, state, work, pivots);
+    let number = rosenbrock::refused_by(reply);
+    if number != 0 {
+        return CallAnswer { kind: 0, number };
+    }
+    let after = moved_by(*stepper, reply);
     *stepper = after.stepper;
     after.answer
 }
