@@ -1,3 +1,3 @@
 -- Laws that the proofs cite.
-mod Steps
+pub mod Steps
 mod Locals

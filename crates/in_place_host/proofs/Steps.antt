@@ -57,4 +57,4 @@ module _ (state work : List Float) (pivots : List ℕ) where
   refused-handed y o left (reply.Refused j) e t h =
       ap (λ (k : ℕ). handed (record { kind = 0; number = k }) (systemOf y state work pivots)) e
       ∙ step-handed (refusal y j) refl (ap (λ (o : Outcome). nextOf o state work pivots) (sym (left j)) ∙ h)
-  refused-handed y o left (reply.Stopped s) e t h = absurd (subst (λ (k : ℕ). T (not (eqb k 0))) e t)
+  refused-handed y o left (reply.Moved s) e t h = absurd (subst (λ (k : ℕ). T (not (eqb k 0))) e t)

@@ -1,8 +1,7 @@
 // The calls on a stepper record that is lent by pointer, for a host in another language, under C's
 // calling convention. No logic of its own. A supply and an attempt hand back a reply before the record
 // is moved: a refusal stores nothing, and otherwise the new record is a function of the old one, read
-// where it lies, and the reply alone, so that a field that stays need not be stored. An attempt
-// towards an endpoint is made on a copy of the record, which is stored back.
+// where it lies, and the reply alone, so that a field that stays need not be stored.
 ghost use mathlib.Core.Path.{_≡_};
 ghost use Rattle.rosenbrock.specs.Stepper.{stepped};
 ghost use Rattle.rosenbrock.specs.Stepper as call;
@@ -38,7 +37,7 @@ fn call_answer(answer: Answer) -> CallAnswer
     }
 }
 
-fn in_numbers(outcome: Outcome) -> Stepped
+pub fn in_numbers(outcome: Outcome) -> Stepped
     ensures { λ r. ⌜ r ≡ inNumbers outcome ⌝ }
 {
     let stepper = outcome.stepper;
@@ -68,33 +67,6 @@ fn opened_by(
     ensures { λ r. ⌜ r ≡ inNumbers (repliedAttempt stepper step «host_jacobian» «host_time_partial» reply) ⌝ }
 {
     let outcome = stepper.replied_attempt(step, host_jacobian, host_time_partial, reply);
-    in_numbers(outcome)
-}
-
-fn attempted_to(
-    stepper: RosenbrockStepper,
-    file: &[u8],
-    endpoint: f64,
-    proposal: f64,
-    host_jacobian: bool,
-    host_time_partial: bool,
-    state: &[f64],
-    work: &mut [f64],
-    pivots: &mut [usize],
-) -> Stepped
-    ensures { λ r. ⌜ handed (r .answer) (systemOf (r .stepper) (now (state .entry)) (now (work .exit)) (now (pivots .exit)))
-        ≡ asNumbers (stepped (call.attempt-to (now (file .entry)) endpoint proposal «host_jacobian» «host_time_partial») (systemOf stepper (now (state .entry)) (now (work .entry)) (now (pivots .entry)))) ⌝ }
-{
-    let outcome = stepper.attempt_to(
-        file,
-        endpoint,
-        proposal,
-        host_jacobian,
-        host_time_partial,
-        state,
-        work,
-        pivots,
-    );
     in_numbers(outcome)
 }
 
@@ -128,36 +100,6 @@ pub extern "C" fn wiqhano_stepper_attempt_in_place(
         return CallAnswer { kind: 0, number };
     }
     let after = opened_by(*stepper, step, host_jacobian, host_time_partial, reply);
-    *stepper = after.stepper;
-    after.answer
-}
-
-#[no_mangle]
-pub extern "C" fn wiqhano_stepper_attempt_to_in_place(
-    stepper: &mut RosenbrockStepper,
-    file: &[u8],
-    endpoint: f64,
-    proposal: f64,
-    host_jacobian: bool,
-    host_time_partial: bool,
-    state: &[f64],
-    work: &mut [f64],
-    pivots: &mut [usize],
-) -> CallAnswer
-    ensures { λ r. ⌜ handed r (systemOf (now (stepper .exit)) (now (state .entry)) (now (work .exit)) (now (pivots .exit)))
-        ≡ asNumbers (stepped (call.attempt-to (now (file .entry)) endpoint proposal «host_jacobian» «host_time_partial») (systemOf (now (stepper .entry)) (now (state .entry)) (now (work .entry)) (now (pivots .entry)))) ⌝ }
-{
-    let after = attempted_to(
-        *stepper,
-        file,
-        endpoint,
-        proposal,
-        host_jacobian,
-        host_time_partial,
-        state,
-        work,
-        pivots,
-    );
     *stepper = after.stepper;
     after.answer
 }

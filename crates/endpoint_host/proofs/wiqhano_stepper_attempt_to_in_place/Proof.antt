@@ -1,4 +1,4 @@
--- `in_place_host::wiqhano_stepper_attempt_to_in_place` meets its contract: a walk of its code by hand, which knows of `attempted_to` only its contract. Assumes nothing.
+-- `endpoint_host::wiqhano_stepper_attempt_to_in_place` meets its contract: a walk of its code by hand, which knows of `attempted_to` only its contract. Assumes nothing.
 use mathlib.Core.Path.{_≡_, refl, ap}
 use Prim.Native.Nat.{ℕ}
 use mathlib.Core.List.{[], _∷_, List}
@@ -44,25 +44,25 @@ use denote.Triple.Walked.{says, Stays, stay-ref, gave-slice, stay-none, stay-non
 use denote.Exit.{yes}
 use denote.Signature.{plain}
 use Rattle.rosenbrock.specs.declared.RosenbrockStepper.{RosenbrockStepper}
 use Rattle.in_place_host.specs.declared.CallAnswer.{CallAnswer}
 use Rattle.in_place_host.specs.declared.Stepped.{Stepped}
 use Rattle.rosenbrock.specs.Stepper.{attempt-to, stepped}
 use Rattle.rosenbrock.specs.Contracts.{systemOf}
 use Rattle.in_place_host.specs.Handed.{handed, asNumbers}
 use Rattle.rosenbrock.proofs.RosenbrockStepper as T
 use Rattle.rosenbrock.proofs.RosenbrockStepper.Laws as T′
 use Rattle.in_place_host.proofs.CallAnswer as N
 use Rattle.in_place_host.proofs.CallAnswer.Laws as N′
 use Rattle.in_place_host.proofs.Stepped as L
 use Rattle.in_place_host.proofs.Stepped.Laws as L′
-use Rattle.in_place_host.proofs.attempted_to as coded
-use Rattle.in_place_host.proofs.attempted_to.Symbol as coded-def
-use Rattle.in_place_host.proofs.attempted_to.Symbol.{name as #in-place-host·attempted-to}
-use Rattle.in_place_host.proofs.attempted_to.Met as coded-thm
-use Rattle.in_place_host.proofs.wiqhano_stepper_attempt_to_in_place.Key.{name as #in-place-host·wiqhano-stepper-attempt-to-in-place}
-use Rattle.in_place_host.proofs.wiqhano_stepper_attempt_to_in_place as place
-use Rattle.in_place_host.proofs.wiqhano_stepper_attempt_to_in_place.Statement as stated
-use Rattle.in_place_host.proofs.wiqhano_stepper_attempt_to_in_place.Code as code
+use Rattle.endpoint_host.proofs.attempted_to as coded
+use Rattle.endpoint_host.proofs.attempted_to.Symbol as coded-def
+use Rattle.endpoint_host.proofs.attempted_to.Symbol.{name as #endpoint-host·attempted-to}
+use Rattle.endpoint_host.proofs.attempted_to.Met as coded-thm
+use Rattle.endpoint_host.proofs.wiqhano_stepper_attempt_to_in_place.Key.{name as #endpoint-host·wiqhano-stepper-attempt-to-in-place}
+use Rattle.endpoint_host.proofs.wiqhano_stepper_attempt_to_in_place as place
+use Rattle.endpoint_host.proofs.wiqhano_stepper_attempt_to_in_place.Statement as stated
+use Rattle.endpoint_host.proofs.wiqhano_stepper_attempt_to_in_place.Code as code
 
 abbrev stayed : Stays (place.ended .signature .params) (place.ended .kept)
 stayed = (stay-ref (0 ∷ []) tt (plain (λ _. T.the-row)), (stay-none-slice (1 ∷ []) tt (plain (λ _. u8)) yes, (stay-none (λ _. f64) yes, (stay-none (λ _. f64) yes, (stay-none (λ _. bool) yes, (stay-none (λ _. bool) yes, (stay-none-slice (2 ∷ []) tt (plain (λ _. f64)) yes, (gave-slice (3 ∷ []) tt (plain (λ _. f64)), (gave-slice (4 ∷ []) tt (plain (λ _. usize)), tt)))))))))
@@ -172,7 +172,7 @@ module _ {M : Type 1} (𝓤 : URA M) (H : Heap 𝓤) (A : Atoms 𝓤) (W : Given
   answer-is : (r : Stepped) (w : Val) → Is L.the-row r (w ∷ []) → Is N.the-row (r .answer) (N′.lowered (r .answer) ∷ [])
   answer-is r w is = LL.owed L.the-type L′.the-laws r _ is .1 .0
 
-  module _ (C : Calls 𝓤 H) (Λ : Loops 𝓤 H) (fm : FmC 𝓤 H (W .laws) C) (known : Triple 𝓤 (C #in-place-host·attempted-to) (Coded 𝓤 H A at-mem run)) where
+  module _ (C : Calls 𝓤 H) (Λ : Loops 𝓤 H) (fm : FmC 𝓤 H (W .laws) C) (known : Triple 𝓤 (C #endpoint-host·attempted-to) (Coded 𝓤 H A at-mem run)) where
     walk : Is (ShrSlice (named 1) κ₁ u8) xf (sf ∷ []) → Is f64 to-end (ve ∷ []) → Is f64 d (vd ∷ []) → Is bool hj (vj ∷ []) → Is bool ht (vt ∷ []) → Is (ShrSlice (named 2) κ₂ f64) xs (ss ∷ []) → Room f64 (length (xw .now)) → Room usize (length (xp .now))
         → ent 𝓤 (onEntry 𝓤 H A place.signature (κ, (κ₁, (κ₂, (κ₃, (κ₄, tt))))) (q, (q₁, (q₂, (q₃, (q₄, tt))))) a vals) (WpFn 𝓤 H C Λ code.function (vptr b o ∷ sf ∷ ve ∷ vd ∷ vj ∷ vt ∷ ss ∷ sw ∷ sp ∷ []) Post)
     walk if ie ist ij it is room room′ =
@@ -231,7 +231,7 @@ module _ {M : Type 1} (𝓤 : URA M) (H : Heap 𝓤) (A : Atoms 𝓤) (W : Given
         keep ! (0 ∷ 1 ∷ 2 ∷ 3 ∷ 4 ∷ 5 ∷ 6 ∷ 7 ∷ 8 ∷ 9 ∷ 10 ∷ 11 ∷ []) $ by ! (exits (r .stepper) (r .answer) (zs .1 .1 .1 .1 .1 .1 .1 .0) (zs .1 .1 .1 .1 .1 .1 .1 .1 .0) (answer-is r w ir) e lw lp))))))))))))))))))))))))))
 
 module _ {M : Type 1} (𝓤 : URA M) (H : Heap 𝓤) (A : Atoms 𝓤) (W : Given 𝓤 H A) (mem : Memory → SProp 𝓤) (run : Routine → Fun 𝓤) where
-  walks : (C : Calls 𝓤 H) (Λ : Loops 𝓤 H) → FmC 𝓤 H (W .laws) C → Triple 𝓤 (C #in-place-host·attempted-to) (Coded 𝓤 H A mem run) → Walks 𝓤 H A place.ended stayed (WpFn 𝓤 H C Λ code.function) (place.clauses 𝓤 H A mem run)
+  walks : (C : Calls 𝓤 H) (Λ : Loops 𝓤 H) → FmC 𝓤 H (W .laws) C → Triple 𝓤 (C #endpoint-host·attempted-to) (Coded 𝓤 H A mem run) → Walks 𝓤 H A place.ended stayed (WpFn 𝓤 H C Λ code.function) (place.clauses 𝓤 H A mem run)
   walks C Λ fm known = walked 𝓤 H A place.ended stayed (place.clauses 𝓤 H A mem run) (WpFn 𝓤 H C Λ code.function)
       (λ κs. (ptr-vals, (slice-vals, (float-vals binary64, (float-vals binary64, (bool-vals, (bool-vals, (slice-vals, (slice-vals, (slice-vals, tt))))))))))
       (λ κs. (mut-tells (named 0) (κs .0) T.the-row, (shr-slice-tells (named 1) (κs .1 .0) u8, (float-tells binary64, (float-tells binary64, (bool-tells, (bool-tells, (shr-slice-tells (named 2) (κs .1 .1 .0) f64, (mut-slice-tells (named 3) (κs .1 .1 .1 .0) f64, (mut-slice-tells (named 4) (κs .1 .1 .1 .1 .0) usize, tt))))))))))
@@ -239,7 +239,7 @@ module _ {M : Type 1} (𝓤 : URA M) (H : Heap 𝓤) (A : Atoms 𝓤) (W : Given
       (walk 𝓤 H A W mem run (κs .0) (κs .1 .0) (κs .1 .1 .0) (κs .1 .1 .1 .0) (κs .1 .1 .1 .1 .0) (qs .0) (qs .1 .0) (qs .1 .1 .0) (qs .1 .1 .1 .0) (qs .1 .1 .1 .1 .0) (a .0 .ptr .0) (a .0 .ptr .1) (a .0 .name) (a .0 .now) (a .1 .0) (a .1 .1 .0) (a .1 .1 .1 .0) (a .1 .1 .1 .1 .0) (a .1 .1 .1 .1 .1 .0) (a .1 .1 .1 .1 .1 .1 .0) (a .1 .1 .1 .1 .1 .1 .1 .0) (a .1 .1 .1 .1 .1 .1 .1 .1 .0) C Λ fm known
       (are .1 .0) (are .1 .1 .0) (are .1 .1 .1 .0) (are .1 .1 .1 .1 .0) (are .1 .1 .1 .1 .1 .0) (are .1 .1 .1 .1 .1 .1 .0) (are .1 .1 .1 .1 .1 .1 .1 .0 .0 .1) (are .1 .1 .1 .1 .1 .1 .1 .1 .0 .0 .1)))
 
-meets : {M : Type 1} (𝓤 : URA M) (H : Heap 𝓤) (A : Atoms 𝓤) → Given 𝓤 H A → (mem : Memory → SProp 𝓤) (run : Routine → Fun 𝓤) (𝓣 : Tables 𝓤 H) → Triple 𝓤 (𝓣 .C #in-place-host·attempted-to) (Coded 𝓤 H A mem run)
+meets : {M : Type 1} (𝓤 : URA M) (H : Heap 𝓤) (A : Atoms 𝓤) → Given 𝓤 H A → (mem : Memory → SProp 𝓤) (run : Routine → Fun 𝓤) (𝓣 : Tables 𝓤 H) → Triple 𝓤 (𝓣 .C #endpoint-host·attempted-to) (Coded 𝓤 H A mem run)
     → Meets 𝓤 H A place.signature (WpFn 𝓤 H (𝓣 .C) (𝓣 .Λ) code.function) (place.spec 𝓤 H A mem run)
 meets 𝓤 H A W mem run 𝓣 known =
     walk-meets 𝓤 H A place.ended stayed W
@@ -250,6 +250,6 @@ pub wiqhano-stepper-attempt-to-in-place-spec : {M : Type 1} → stated.statement
 unfolding code.routine tablesOf
 wiqhano-stepper-attempt-to-in-place-spec 𝓤 H 𝓜 𝓖 𝓡 =
     entered 𝓤 H (tripleOf 𝓤 H (𝓖 .A) place.signature (place.spec 𝓤 H (𝓖 .A) (𝓜 .mem) (𝓡 .run)))
-    (tables 𝓤 H 𝓜 𝓡 code.env .C) (tables 𝓤 H 𝓜 𝓡 code.env .Λ) #in-place-host·wiqhano-stepper-attempt-to-in-place code.function (code.unfolded 𝓤 H 𝓜 𝓡)
+    (tables 𝓤 H 𝓜 𝓡 code.env .C) (tables 𝓤 H 𝓜 𝓡 code.env .Λ) #endpoint-host·wiqhano-stepper-attempt-to-in-place code.function (code.unfolded 𝓤 H 𝓜 𝓡)
     (meets 𝓤 H (𝓖 .A) (givenOf 𝓤 H 𝓜 𝓖) (𝓜 .mem) (𝓡 .run) (tablesOf 𝓤 H 𝓜 (tables 𝓤 H 𝓜 𝓡 code.env))
-    (cited 𝓤 H (Coded 𝓤 H (𝓖 .A) (𝓜 .mem) (𝓡 .run)) 𝓜 𝓡 code.env #in-place-host·attempted-to coded-def.routine code.calls-in-place-host·attempted-to (coded-thm.met 𝓤 H 𝓜 𝓖 𝓡)))
+    (cited 𝓤 H (Coded 𝓤 H (𝓖 .A) (𝓜 .mem) (𝓡 .run)) 𝓜 𝓡 code.env #endpoint-host·attempted-to coded-def.routine code.calls-endpoint-host·attempted-to (coded-thm.met 𝓤 H 𝓜 𝓖 𝓡)))

@@ -1,8 +1,8 @@
--- `in_place_host::attempted_to` meets its contract. Assumes nothing.
+-- `endpoint_host::attempted_to` meets its contract. Assumes nothing.
 use borrow.Author.Needs.{needs}
 use Rattle.in_place_host.proofs.Steps.{moved-handed}
-use Rattle.in_place_host.proofs.attempted_to.Statement.{statement}
-use Rattle.in_place_host.proofs.attempted_to.Tie as tie
+use Rattle.endpoint_host.proofs.attempted_to.Statement.{statement}
+use Rattle.endpoint_host.proofs.attempted_to.Tie as tie
 
 attempt-to-requires : tie.Need-attempt-to-requires
 attempt-to-requires c κs = tt
