@@ -3,3 +3,4 @@ pub mod Lengths
 pub mod Requests
 pub mod Links
 pub mod Settings
+pub mod Moves

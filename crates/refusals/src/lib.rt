@@ -1,5 +1,5 @@
-// The parts of the stepper's record that its calls read and move, and the tests of each call, in their
-// order.
+// The parts of the stepper's record that its calls read and move, the request that stands in it, and the
+// tests of each call, in their order.
 ghost use mathlib.Core.Path.{_≡_};
 ghost use mathlib.Core.Bool.{cond};
 ghost use mathlib.Core.List.{[], _∷_, _++_};
@@ -8,8 +8,10 @@ ghost use lib.Dec.{eqb};
 ghost use lib.ListN.{length};
 ghost use Rattle.stepping.specs.Refusals.{firstOf};
 ghost use Rattle.stages.specs.Layout.{neededWork};
-ghost use Rattle.refusals.specs.Requests.{requestFits};
+ghost use Rattle.refusals.specs.Requests.{askOf, askNumber, askStage, requestAfter, stageAfter, requestFits};
 ghost use Rattle.refusals.specs.Tests.{shapeFits, sizeTests, fileTests, finiteTest, attemptRest, stepTests, supplyRest, failRest, decisionRest, injectRest, resetRest, lentTests, lentNewTests};
+use attempts::Ask;
+use attempts::Ending;
 use attempts::Memo;
 use stepping::Checked;
 use time_difference::TimeDifferencePolicy;
@@ -36,6 +38,81 @@ pub struct Progress {
     pub request: u32,
     pub stage: usize,
     pub memo: Memo,
+}
+
+// ---- the request
+
+// What is asked, where an attempt is open.
+pub fn ask_of(request: u32, stage: usize) -> Ask
+    ensures { λ r. ⌜ r ≡ askOf request stage ⌝ }
+{
+    if request == 2 {
+        return Ask::Derivative;
+    }
+    if request == 3 {
+        return Ask::Jacobian;
+    }
+    if request == 4 {
+        return Ask::TimePartial;
+    }
+    if request == 5 {
+        return Ask::FirstProbe;
+    }
+    if request == 6 {
+        return Ask::SecondProbe;
+    }
+    if request == 7 {
+        return Ask::Column(stage);
+    }
+    Ask::Stage(stage)
+}
+
+fn ask_number(ask: Ask) -> u32
+    ensures { λ r. ⌜ r ≡ askNumber ask ⌝ }
+{
+    match ask {
+        Ask::Derivative => 2,
+        Ask::Jacobian => 3,
+        Ask::TimePartial => 4,
+        Ask::FirstProbe => 5,
+        Ask::SecondProbe => 6,
+        Ask::Column(k) => 7,
+        Ask::Stage(i) => 8,
+    }
+}
+
+fn ask_stage(ask: Ask) -> usize
+    ensures { λ r. ⌜ r ≡ askStage ask ⌝ }
+{
+    match ask {
+        Ask::Derivative => 0,
+        Ask::Jacobian => 0,
+        Ask::TimePartial => 0,
+        Ask::FirstProbe => 0,
+        Ask::SecondProbe => 0,
+        Ask::Column(k) => k,
+        Ask::Stage(i) => i,
+    }
+}
+
+pub fn request_after(ending: Ending) -> u32
+    ensures { λ r. ⌜ r ≡ requestAfter ending ⌝ }
+{
+    match ending {
+        Ending::Asks(ask) => ask_number(ask),
+        Ending::Ends(number) => 0,
+        Ending::Shows => 1,
+    }
+}
+
+pub fn stage_after(ending: Ending) -> usize
+    ensures { λ r. ⌜ r ≡ stageAfter ending ⌝ }
+{
+    match ending {
+        Ending::Asks(ask) => ask_stage(ask),
+        Ending::Ends(number) => 0,
+        Ending::Shows => 0,
+    }
 }
 
 // ---- the first tests

@@ -3,7 +3,6 @@ pub mod Guards
 pub mod Lengths
 pub mod Memory
 pub mod Readers
-pub mod Lines
 mod Nexts
 mod Makings
 mod Stops

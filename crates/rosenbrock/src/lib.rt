@@ -5,13 +5,11 @@ ghost use Prim.Native.Nat.{min, _*_};
 ghost use lib.ListN.{length};
 ghost use Rattle.stages.specs.Layout.{neededWork};
 ghost use Rattle.attempts.specs.Calls.{stopBy};
-ghost use Rattle.refusals.specs.Requests.{askOf, askNumber, askStage, requestAfter, stageAfter};
 ghost use Rattle.refusals.specs.Tests.{shapeFits};
 ghost use Rattle.refusals.specs.Answers.{lending};
 ghost use Rattle.rosenbrock.specs.Calls.{settingBy, memoAccepted, fresh, opening, attemptBy};
 ghost use Rattle.rosenbrock.specs.Stepper.{oneMore, tallied, noStatistics, needed, trimmed, by-value, attempt, attempt-to, supply, fail, accept, reject, inject-derivative, reset, nextBy, stepped};
 ghost use Rattle.rosenbrock.specs.Contracts.{marksBy, answerAfter, outcomeAfter, systemOf, nextOf, replied, repliedAttempt, refusedBy, madeBy, makingOf};
-use attempts::Ask;
 use attempts::Counted;
 use attempts::Ending;
 use attempts::Marks;
@@ -68,81 +66,6 @@ pub enum Reply {
 pub enum Making {
     Made(RosenbrockStepper),
     Refused(u32),
-}
-
-// ---- the request
-
-// What is asked, where an attempt is open.
-fn ask_of(request: u32, stage: usize) -> Ask
-    ensures { λ r. ⌜ r ≡ askOf request stage ⌝ }
-{
-    if request == 2 {
-        return Ask::Derivative;
-    }
-    if request == 3 {
-        return Ask::Jacobian;
-    }
-    if request == 4 {
-        return Ask::TimePartial;
-    }
-    if request == 5 {
-        return Ask::FirstProbe;
-    }
-    if request == 6 {
-        return Ask::SecondProbe;
-    }
-    if request == 7 {
-        return Ask::Column(stage);
-    }
-    Ask::Stage(stage)
-}
-
-fn ask_number(ask: Ask) -> u32
-    ensures { λ r. ⌜ r ≡ askNumber ask ⌝ }
-{
-    match ask {
-        Ask::Derivative => 2,
-        Ask::Jacobian => 3,
-        Ask::TimePartial => 4,
-        Ask::FirstProbe => 5,
-        Ask::SecondProbe => 6,
-        Ask::Column(k) => 7,
-        Ask::Stage(i) => 8,
-    }
-}
-
-fn ask_stage(ask: Ask) -> usize
-    ensures { λ r. ⌜ r ≡ askStage ask ⌝ }
-{
-    match ask {
-        Ask::Derivative => 0,
-        Ask::Jacobian => 0,
-        Ask::TimePartial => 0,
-        Ask::FirstProbe => 0,
-        Ask::SecondProbe => 0,
-        Ask::Column(k) => k,
-        Ask::Stage(i) => i,
-    }
-}
-
-fn request_after(ending: Ending) -> u32
-    ensures { λ r. ⌜ r ≡ requestAfter ending ⌝ }
-{
-    match ending {
-        Ending::Asks(ask) => ask_number(ask),
-        Ending::Ends(number) => 0,
-        Ending::Shows => 1,
-    }
-}
-
-fn stage_after(ending: Ending) -> usize
-    ensures { λ r. ⌜ r ≡ stageAfter ending ⌝ }
-{
-    match ending {
-        Ending::Asks(ask) => ask_stage(ask),
-        Ending::Ends(number) => 0,
-        Ending::Shows => 0,
-    }
 }
 
 fn answer_after(ending: Ending) -> Answer
@@ -303,8 +226,8 @@ fn settled(fixed: Fixed, progress: Progress, statistics: StepStatistics, stop: S
     after.memo.first_probe = memo.first_probe;
     after.memo.second_probe = memo.second_probe;
     after.memo.request_time = memo.request_time;
-    after.request = request_after(ending);
-    after.stage = stage_after(ending);
+    after.request = refusals::request_after(ending);
+    after.stage = refusals::stage_after(ending);
     let counters = tallied(counted, statistics);
     let answer = answer_after(ending);
     let stepper = RosenbrockStepper {
@@ -582,7 +505,7 @@ impl RosenbrockStepper {
         }
         let need = refusals::needed_work(n, s);
         let setting = setting_of(fixed, progress);
-        let ask = ask_of(request, stage);
+        let ask = refusals::ask_of(request, stage);
         let moved = evaluations::resume(
             setting,
             file,

@@ -4,7 +4,7 @@ use borrow.Author.Needs.{needs}
 use Rattle.attempts.specs.Attempt.{onMarks, differentiate}
 use Rattle.attempts.proofs.Links.{choose-yes, choose-no}
 use Rattle.attempts.proofs.Settings.{factor-reduced}
-use Rattle.evaluations.proofs.Links.{factor-as, jacobian-as}
+use Rattle.attempts.proofs.Moves.{factor-as, jacobian-as}
 use Rattle.evaluations.proofs.differentiate.Statement.{statement}
 use Rattle.evaluations.proofs.differentiate.Tie as tie
 

@@ -4,7 +4,7 @@ use borrow.Author.Needs.{needs}
 use Rattle.attempts.specs.Attempt.{evaluate}
 use Rattle.attempts.specs.Calls.{haltStop}
 use Rattle.attempts.proofs.Links.{choose-yes, choose-no}
-use Rattle.evaluations.proofs.Links.{unmoved}
+use Rattle.attempts.proofs.Moves.{unmoved}
 use Rattle.evaluations.proofs.evaluate.Statement.{statement}
 use Rattle.evaluations.proofs.evaluate.Tie as tie
 

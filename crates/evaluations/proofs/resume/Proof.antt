@@ -5,7 +5,7 @@ use borrow.Author.Needs.{needs}
 use Rattle.vector.specs.Parts.{puts}
 use Rattle.attempts.specs.Attempt.{onWork, partialDone, jacobianDone, written, resume, wanted}
 use Rattle.attempts.proofs.Links.{via, then, stage-of, left}
-use Rattle.evaluations.proofs.Links.{unmoved}
+use Rattle.attempts.proofs.Moves.{unmoved}
 use Rattle.evaluations.proofs.resume.Statement.{statement}
 use Rattle.evaluations.proofs.resume.Tie as tie
 

@@ -7,7 +7,7 @@ use Rattle.attempts.specs.Marks.{withDerivative, noting}
 use Rattle.attempts.specs.Attempt.{onWork, onMarks, refuse, differentiate, written, resume}
 use Rattle.attempts.specs.Calls.{haltStop, marked}
 use Rattle.attempts.proofs.Links.{go, ended, via, left, then}
-use Rattle.evaluations.proofs.Links.{unmoved, derivative-as}
+use Rattle.attempts.proofs.Moves.{unmoved, derivative-as}
 use Rattle.evaluations.proofs.resume_derivative.Statement.{statement}
 use Rattle.evaluations.proofs.resume_derivative.Tie as tie
 

@@ -6,7 +6,7 @@ use Rattle.vector.specs.Parts.{puts}
 use Rattle.attempts.specs.Attempt.{onWork, refuse, askRhs, combine, written, resume}
 use Rattle.attempts.specs.Calls.{haltStop}
 use Rattle.attempts.proofs.Links.{choose-yes, choose-no, go, ended, via, left, then}
-use Rattle.evaluations.proofs.Links.{unmoved}
+use Rattle.attempts.proofs.Moves.{unmoved}
 use Rattle.evaluations.proofs.resume_first_probe.Statement.{statement}
 use Rattle.evaluations.proofs.resume_first_probe.Tie as tie
 

@@ -7,7 +7,7 @@ use Rattle.attempts.specs.Attempt.{onWork, refuse, solveStage, written, resume}
 use Rattle.attempts.specs.Calls.{haltStop}
 use Rattle.attempts.proofs.Links.{go, ended, via, left, then}
 use Rattle.attempts.proofs.Settings.{solve-reduced}
-use Rattle.evaluations.proofs.Links.{unmoved, solved}
+use Rattle.attempts.proofs.Moves.{unmoved, solved}
 use Rattle.evaluations.proofs.resume_stage.Statement.{statement}
 use Rattle.evaluations.proofs.resume_stage.Tie as tie
 

@@ -4,7 +4,7 @@ use borrow.Author.Needs.{needs}
 use Rattle.attempts.specs.Attempt.{onWork, show, evaluate, start}
 use Rattle.attempts.specs.Calls.{haltStop}
 use Rattle.attempts.proofs.Links.{choose-yes, choose-no, via, left, shown}
-use Rattle.evaluations.proofs.Links.{unmoved}
+use Rattle.attempts.proofs.Moves.{unmoved}
 use Rattle.evaluations.proofs.start.Statement.{statement}
 use Rattle.evaluations.proofs.start.Tie as tie
 

@@ -1,11 +1,11 @@
--- `evaluations::ask_partial` meets its contract. Assumes nothing.
+-- `partials::ask_partial` meets its contract. Assumes nothing.
 use mathlib.Core.Path.{refl}
 use Rattle.attempts.specs.Attempt.{askPartial}
 use Rattle.attempts.specs.Calls.{haltStop}
 use Rattle.attempts.proofs.Links.{choose-yes, choose-no}
-use Rattle.evaluations.proofs.Links.{probes-as}
-use Rattle.evaluations.proofs.ask_partial.Statement.{statement}
-use Rattle.evaluations.proofs.ask_partial.Tie as tie
+use Rattle.partials.proofs.Links.{probes-as}
+use Rattle.partials.proofs.ask_partial.Statement.{statement}
+use Rattle.partials.proofs.ask_partial.Tie as tie
 
 returns : tie.Need-returns
 unfolding askPartial haltStop

@@ -1,9 +1,9 @@
--- `rosenbrock::request_after` meets its contract: case by case. Assumes nothing.
+-- `refusals::request_after` meets its contract: case by case. Assumes nothing.
 use borrow.Author.Needs.{needs}
 use mathlib.Core.Path.{sym, ap, _∙_}
 use Rattle.refusals.specs.Requests.{requestAfter}
-use Rattle.rosenbrock.proofs.request_after.Statement.{statement}
-use Rattle.rosenbrock.proofs.request_after.Tie as tie
+use Rattle.refusals.proofs.request_after.Statement.{statement}
+use Rattle.refusals.proofs.request_after.Tie as tie
 
 enum-known-ending : tie.Need-enum-known-ending
 enum-known-ending c = search needs

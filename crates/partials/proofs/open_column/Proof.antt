@@ -1,12 +1,12 @@
--- `evaluations::open_column` meets its contract. Assumes nothing.
+-- `partials::open_column` meets its contract. Assumes nothing.
 use Prim.Native.Nat.{_*_}
 use borrow.Author.Needs.{needs}
 use Rattle.attempts.specs.Attempt.{onWork, refuse, askRhs, openColumn}
 use Rattle.attempts.specs.Calls.{haltStop}
 use Rattle.attempts.proofs.Links.{go, ended, finite, not-finite, left}
-use Rattle.evaluations.proofs.Links.{not-zero-as}
-use Rattle.evaluations.proofs.open_column.Statement.{statement}
-use Rattle.evaluations.proofs.open_column.Tie as tie
+use Rattle.partials.proofs.Links.{not-zero-as}
+use Rattle.partials.proofs.open_column.Statement.{statement}
+use Rattle.partials.proofs.open_column.Tie as tie
 
 mul-y : tie.Need-mul-y
 mul-y c = search needs

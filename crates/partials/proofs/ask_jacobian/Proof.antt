@@ -1,11 +1,11 @@
--- `evaluations::ask_jacobian` meets its contract. Assumes nothing.
+-- `partials::ask_jacobian` meets its contract. Assumes nothing.
 use mathlib.Core.Path.{refl}
 use borrow.Author.Needs.{needs}
 use Rattle.attempts.specs.Attempt.{askJacobian}
 use Rattle.attempts.specs.Calls.{haltStop}
 use Rattle.attempts.proofs.Links.{choose-yes, choose-no}
-use Rattle.evaluations.proofs.ask_jacobian.Statement.{statement}
-use Rattle.evaluations.proofs.ask_jacobian.Tie as tie
+use Rattle.partials.proofs.ask_jacobian.Statement.{statement}
+use Rattle.partials.proofs.ask_jacobian.Tie as tie
 
 returns : tie.Need-returns
 unfolding askJacobian haltStop

@@ -1,10 +1,10 @@
--- `rosenbrock::ask_of` meets its contract: test by test. Assumes nothing.
+-- `refusals::ask_of` meets its contract: test by test. Assumes nothing.
 use mathlib.Core.Path.{refl}
 use borrow.Author.Tests.{eq-eqb, ne-eqb}
 use Rattle.float.proofs.Cases.{yes, no}
 use Rattle.refusals.specs.Requests.{askOf}
-use Rattle.rosenbrock.proofs.ask_of.Statement.{statement}
-use Rattle.rosenbrock.proofs.ask_of.Tie as tie
+use Rattle.refusals.proofs.ask_of.Statement.{statement}
+use Rattle.refusals.proofs.ask_of.Tie as tie
 
 returns : tie.Need-returns
 unfolding askOf

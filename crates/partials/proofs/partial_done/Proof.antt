@@ -1,4 +1,4 @@
--- `evaluations::partial_done` meets its contract. Assumes nothing.
+-- `partials::partial_done` meets its contract. Assumes nothing.
 use mathlib.Core.Path.{refl, _∙_}
 use borrow.Author.Needs.{needs}
 use Rattle.float.proofs.Cases.{told-no, told-yes}
@@ -6,9 +6,9 @@ use Rattle.attempts.specs.Attempt.{onMarks, partialDone}
 use Rattle.attempts.specs.Calls.{haltStop}
 use Rattle.attempts.proofs.Links.{go, ended}
 use Rattle.attempts.proofs.Settings.{factor-reduced}
-use Rattle.evaluations.proofs.Links.{unmoved, factor-as, differentiation-as}
-use Rattle.evaluations.proofs.partial_done.Statement.{statement}
-use Rattle.evaluations.proofs.partial_done.Tie as tie
+use Rattle.attempts.proofs.Moves.{unmoved, factor-as, differentiation-as}
+use Rattle.partials.proofs.partial_done.Statement.{statement}
+use Rattle.partials.proofs.partial_done.Tie as tie
 
 mul-finite-at : tie.Need-mul-finite-at
 mul-finite-at c = search needs

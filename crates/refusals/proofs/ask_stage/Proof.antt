@@ -1,9 +1,9 @@
--- `rosenbrock::ask_stage` meets its contract: case by case. Assumes nothing.
+-- `refusals::ask_stage` meets its contract: case by case. Assumes nothing.
 use borrow.Author.Needs.{needs}
 use mathlib.Core.Path.{sym, ap}
 use Rattle.refusals.specs.Requests.{askStage}
-use Rattle.rosenbrock.proofs.ask_stage.Statement.{statement}
-use Rattle.rosenbrock.proofs.ask_stage.Tie as tie
+use Rattle.refusals.proofs.ask_stage.Statement.{statement}
+use Rattle.refusals.proofs.ask_stage.Tie as tie
 
 enum-told : tie.Need-enum-told
 enum-told c = search needs

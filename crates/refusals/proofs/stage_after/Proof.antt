@@ -1,9 +1,9 @@
--- `rosenbrock::stage_after` meets its contract: case by case. Assumes nothing.
+-- `refusals::stage_after` meets its contract: case by case. Assumes nothing.
 use borrow.Author.Needs.{needs}
 use mathlib.Core.Path.{sym, ap, _∙_}
 use Rattle.refusals.specs.Requests.{stageAfter}
-use Rattle.rosenbrock.proofs.stage_after.Statement.{statement}
-use Rattle.rosenbrock.proofs.stage_after.Tie as tie
+use Rattle.refusals.proofs.stage_after.Statement.{statement}
+use Rattle.refusals.proofs.stage_after.Tie as tie
 
 enum-known-ending : tie.Need-enum-known-ending
 enum-known-ending c = search needs

@@ -1,9 +1,9 @@
--- `evaluations::ask_first_probe` meets its contract. Assumes nothing.
+-- `partials::ask_first_probe` meets its contract. Assumes nothing.
 use borrow.Author.Needs.{needs}
 use Rattle.attempts.specs.Attempt.{askFirstProbe}
 use Rattle.attempts.specs.Calls.{haltStop}
-use Rattle.evaluations.proofs.ask_first_probe.Statement.{statement}
-use Rattle.evaluations.proofs.ask_first_probe.Tie as tie
+use Rattle.partials.proofs.ask_first_probe.Statement.{statement}
+use Rattle.partials.proofs.ask_first_probe.Tie as tie
 
 enum-known-probes : tie.Need-enum-known-probes
 enum-known-probes c = search needs

@@ -1,10 +1,10 @@
--- `evaluations::combine` meets its contract. Assumes nothing.
+-- `partials::combine` meets its contract. Assumes nothing.
 use mathlib.Core.Path.{refl}
 use borrow.Author.Needs.{needs}
 use Rattle.attempts.specs.Attempt.{onWork, partialDone, combine}
 use Rattle.attempts.proofs.Links.{via}
-use Rattle.evaluations.proofs.combine.Statement.{statement}
-use Rattle.evaluations.proofs.combine.Tie as tie
+use Rattle.partials.proofs.combine.Statement.{statement}
+use Rattle.partials.proofs.combine.Tie as tie
 
 time-partial-requires : tie.Need-time-partial-requires
 time-partial-requires c κs = search needs

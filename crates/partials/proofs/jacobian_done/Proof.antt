@@ -1,12 +1,12 @@
--- `evaluations::jacobian_done` meets its contract. Assumes nothing.
+-- `partials::jacobian_done` meets its contract. Assumes nothing.
 use mathlib.Core.Path.{refl}
 use borrow.Author.Needs.{needs}
 use Rattle.float.proofs.Cases.{told-no, told-yes}
 use Rattle.attempts.specs.Attempt.{jacobianDone}
 use Rattle.attempts.specs.Calls.{haltStop}
 use Rattle.attempts.proofs.Links.{go, ended}
-use Rattle.evaluations.proofs.jacobian_done.Statement.{statement}
-use Rattle.evaluations.proofs.jacobian_done.Tie as tie
+use Rattle.partials.proofs.jacobian_done.Statement.{statement}
+use Rattle.partials.proofs.jacobian_done.Tie as tie
 
 mul-finite-at : tie.Need-mul-finite-at
 mul-finite-at c = search needs

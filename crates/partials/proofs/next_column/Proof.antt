@@ -1,10 +1,10 @@
--- `evaluations::next_column` meets its contract. Assumes nothing.
+-- `partials::next_column` meets its contract. Assumes nothing.
 use borrow.Author.Tests.{eq-eqb, ne-eqb}
 use borrow.Author.Needs.{needs}
 use Rattle.attempts.specs.Attempt.{nextColumn}
 use Rattle.attempts.proofs.Links.{choose-yes, choose-no}
-use Rattle.evaluations.proofs.next_column.Statement.{statement}
-use Rattle.evaluations.proofs.next_column.Tie as tie
+use Rattle.partials.proofs.next_column.Statement.{statement}
+use Rattle.partials.proofs.next_column.Tie as tie
 
 jacobian-done-requires : tie.Need-jacobian-done-requires
 jacobian-done-requires c κs = search needs
