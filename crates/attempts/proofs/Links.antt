@@ -27,16 +27,11 @@ use Rattle.linear.proofs.Outcomes.{pivots-below, raw-succeeds}
 use Rattle.stages.specs.Layout.{Stage, PivotRows, factorsAt}
 use Rattle.stages.specs.Memory.{component, eliminationIn}
 use Rattle.attempts.specs.declared.Marks.{Marks}
-use Rattle.attempts.specs.declared.StageOutcome.{StageOutcome}
-use Rattle.attempts.specs.declared.FactorOutcome.{FactorOutcome}
-use Rattle.attempts.specs.declared.FactorOutcome.the-variants as outcome
-use Rattle.attempts.specs.declared.FactorOutcome.the-variants.{Unfactored, Solved}
 use Rattle.attempts.specs.declared.Halt.{Halt}
 use Rattle.attempts.specs.declared.Halt.the-variants as halts
 use Rattle.attempts.specs.declared.Moved.{Moved}
-use Rattle.attempts.specs.Marks.{withCaches, countingFactorization, countingSolve, counting}
 use Rattle.attempts.specs.Attempt.{Given, Scratch, Stopped, scratch, stopped, onMarks, halt, refuse, ask, askRhs, choose, provided, show}
-use Rattle.attempts.specs.Calls.{haltStop, movedMarks, movedStop, stopBy, movedBy, stageStop, factorMoved, factorStop}
+use Rattle.attempts.specs.Calls.{haltStop, movedMarks, movedStop, stopBy}
 
 -- ---- one test
 
@@ -129,19 +124,6 @@ pivots-as n p l e = e ∙ ap (λ (z : List Float). eliminationIn n p z .pivots) 
 pub shown : (g : Given) (x : Scratch) {b : Bool} → b ≡ (eqb (g .tableau .counts .estimator) 0 && present (g .tableau .counts)) → haltStop (halts.Shows b) x ≡ show g x
 unfolding show haltStop
 shown g x e = rw e
-
-module _ (r : StageOutcome) (x : Scratch) where
-  pub unfactored-stop : factorStop (Unfactored r) x ≡ stageStop r x
-  unfolding movedStop movedMarks factorMoved movedBy onMarks withCaches
-  unfactored-stop = refl
-
-  pub factored-stop : factorStop (outcome.Factored r) x ≡ stageStop r (onMarks (counting countingFactorization) x)
-  unfolding movedStop movedMarks factorMoved movedBy onMarks withCaches counting countingFactorization
-  factored-stop = refl
-
-  pub solved-stop : factorStop (Solved r) x ≡ stageStop r (onMarks (counting countingSolve) (onMarks (counting countingFactorization) x))
-  unfolding movedStop movedMarks factorMoved movedBy onMarks withCaches counting countingFactorization countingSolve
-  solved-stop = refl
 
 halt-stops : (h : Halt) (m : Marks) (w : List Float) (p : List ℕ) → stopped (haltStop h (scratch m [] []) .stop) w p ≡ haltStop h (scratch m w p)
 unfolding haltStop askRhs ask refuse halt onMarks

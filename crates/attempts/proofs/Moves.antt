@@ -7,10 +7,9 @@ use lib.Ieee.{Float}
 use Rattle.attempts.specs.declared.Marks.{Marks}
 use Rattle.attempts.specs.declared.Halt.{Halt}
 use Rattle.attempts.specs.declared.Moved.{Moved}
-use Rattle.attempts.specs.declared.FactorOutcome.{FactorOutcome}
-use Rattle.attempts.specs.Marks.{withCaches, withDerivative, withDifferentiation, countingJacobian, countingSolve, noting, counting}
+use Rattle.attempts.specs.Marks.{withCaches, withDerivative, withDifferentiation, countingJacobian, countingFactorization, countingSolve, noting, counting}
 use Rattle.attempts.specs.Attempt.{Scratch, Stopped, scratch, onMarks}
-use Rattle.attempts.specs.Calls.{haltStop, movedMarks, movedStop, movedBy, factorMoved, factorStop}
+use Rattle.attempts.specs.Calls.{haltStop, movedMarks, movedStop, movedBy}
 
 abbrev with-derivative : Moved → Moved
 with-derivative r =
@@ -25,18 +24,24 @@ with-jacobian r =
     record { derivative = r .derivative; differentiation = r .differentiation; jacobian = true; factorization = r .factorization; solve = r .solve; halt = r .halt }
 
 module _ (x : Scratch) {s : Stopped} where
-  -- nothing but the halt, and a stage solved
+  -- nothing but the halt
   pub unmoved : {r : Moved} (h : Halt) → r ≡ movedBy false false h → haltStop h x ≡ s → movedStop r x ≡ s
   unfolding movedStop movedMarks movedBy onMarks withCaches
   unmoved h e q = ap (λ (r : Moved). movedStop r x) e ∙ q
 
-  pub solved : {r : Moved} {h h' : Halt} → r ≡ movedBy false true h → h ≡ h' → haltStop h' (onMarks (counting countingSolve) x) ≡ s → movedStop r x ≡ s
-  unfolding movedStop movedMarks movedBy onMarks withCaches counting countingSolve
-  solved e k q = ap (λ (r : Moved). movedStop r x) (e ∙ ap (movedBy false true) k) ∙ q
+  -- a solve, a factorization, both
+  module _ {r : Moved} {h h' : Halt} where
+    pub solved : r ≡ movedBy false true h → h ≡ h' → haltStop h' (onMarks (counting countingSolve) x) ≡ s → movedStop r x ≡ s
+    unfolding movedStop movedMarks movedBy onMarks withCaches counting countingSolve
+    solved e k q = ap (λ (r : Moved). movedStop r x) (e ∙ ap (movedBy false true) k) ∙ q
 
-  -- the matrix, and what follows it
-  pub factor-as : {r : Moved} (o : FactorOutcome) → r ≡ factorMoved o → factorStop o x ≡ s → movedStop r x ≡ s
-  factor-as o e q = ap (λ (r : Moved). movedStop r x) e ∙ q
+    pub factorized : r ≡ movedBy true false h → h ≡ h' → haltStop h' (onMarks (counting countingFactorization) x) ≡ s → movedStop r x ≡ s
+    unfolding movedStop movedMarks movedBy onMarks withCaches counting countingFactorization
+    factorized e k q = ap (λ (r : Moved). movedStop r x) (e ∙ ap (movedBy true false) k) ∙ q
+
+    pub factorized-solved : r ≡ movedBy true true h → h ≡ h' → haltStop h' (onMarks (counting countingSolve) (onMarks (counting countingFactorization) x)) ≡ s → movedStop r x ≡ s
+    unfolding movedStop movedMarks movedBy onMarks withCaches counting countingFactorization countingSolve
+    factorized-solved e k q = ap (λ (r : Moved). movedStop r x) (e ∙ ap (movedBy true true) k) ∙ q
 
   -- a Jacobian that is asked for
   pub jacobian-as : {r : Moved} (h : Halt) → r ≡ movedBy false false h → haltStop h (onMarks (counting countingJacobian) x) ≡ s → movedStop (with-jacobian r) x ≡ s

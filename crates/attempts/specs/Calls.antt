@@ -1,7 +1,7 @@
 -- What the code of an open attempt needs of its callers, what it hands back, and what it says of the memory that it is not lent. Definitions only.
 use Prim.Native.Nat.{ℕ, _≤_, _<_}
 use mathlib.Core.Path.{_≡_}
-use mathlib.Core.Bool.{Bool, true, false, _||_}
+use mathlib.Core.Bool.{Bool, false, _||_}
 use mathlib.Core.List.{List, []}
 use lib.ListN.{getD}
 use lib.Ieee.{Float}
@@ -17,8 +17,6 @@ use Rattle.attempts.specs.declared.Stop.{Stop}
 use Rattle.attempts.specs.declared.Ending.the-variants as ending
 use Rattle.attempts.specs.declared.StageOutcome.{StageOutcome}
 use Rattle.attempts.specs.declared.StageOutcome.the-variants.{Asks, Ends, Shows}
-use Rattle.attempts.specs.declared.FactorOutcome.{FactorOutcome}
-use Rattle.attempts.specs.declared.FactorOutcome.the-variants.{Unfactored, Factored, Solved}
 use Rattle.attempts.specs.declared.Halt.{Halt}
 use Rattle.attempts.specs.declared.Halt.the-variants as halts
 use Rattle.attempts.specs.declared.Moved.{Moved}
@@ -114,15 +112,6 @@ stageHalt (Shows error) = halts.Shows error
 
 abbrev pub stageStop : StageOutcome → Scratch → Stopped
 stageStop r x = haltStop (stageHalt r) x
-
--- the same from the matrix on
-unfoldable pub factorMoved : FactorOutcome → Moved
-factorMoved (Unfactored r) = movedBy false false (stageHalt r)
-factorMoved (Factored r) = movedBy true false (stageHalt r)
-factorMoved (Solved r) = movedBy true true (stageHalt r)
-
-abbrev pub factorStop : FactorOutcome → Scratch → Stopped
-factorStop r x = movedStop (factorMoved r) x
 
 -- a memo with what the call has counted so far
 abbrev pub marked : Memo → Counted → Marks

@@ -15,7 +15,7 @@ ghost use Rattle.stages.specs.Layout.{Stage, PivotRows};
 ghost use Rattle.stages.specs.Memory.{component};
 ghost use Rattle.attempts.specs.Marks.{countingFactorization, countingSolve, counting};
 ghost use Rattle.attempts.specs.Attempt.{Scratch, given, scratch, stopped, onMarks, refuse, ask, askRhs, show, finish, askStage, openStage, nextStage, solveStage, firstStage, factor};
-ghost use Rattle.attempts.specs.Calls.{Fit, Stops, settingAt, haltStop, movedStop, movedBy, stageHalt, stageStop, factorMoved, factorStop};
+ghost use Rattle.attempts.specs.Calls.{Fit, Stops, settingAt, haltStop, movedStop, movedBy, stageHalt, stageStop};
 use linear::Factorization;
 use time_difference::TimeDifferencePolicy;
 
@@ -88,24 +88,16 @@ pub struct Stop {
 }
 
 // How the stages stop: the derivative of a stage is asked for at a time, a refusal closes the attempt,
-// or the step is shown, with its error or without. Few numbers, and no marks: it is what the calls
-// that do the arithmetic hand back.
+// or the step is shown, with its error or without.
 pub enum StageOutcome {
     Asks(usize, f64),
     Ends(u32),
     Shows(bool),
 }
 
-// The same from the matrix on, by what was counted: nothing, a factorization, or a solve as well.
-pub enum FactorOutcome {
-    Unfactored(StageOutcome),
-    Factored(StageOutcome),
-    Solved(StageOutcome),
-}
-
-// How an open attempt halts, in one: what it asks for with the request's time (for the first time probe
-// whether there are two, and both times), the number of the refusal that closes it, or whether the
-// step that it shows has an error. Few numbers, and no marks.
+// How an open attempt halts: what it asks for, with the request's time (for the first time probe whether
+// there are two, and both times), the number of the refusal that closes it, or whether the step that
+// it shows has an error.
 pub enum Halt {
     Derivative(f64),
     Jacobian(f64),
@@ -119,7 +111,8 @@ pub enum Halt {
 }
 
 // What an open attempt moves: the caches that now hold, what it counted besides the request, and how it
-// halts. It is what the calls that do the arithmetic hand back; the marks are set from it at the end.
+// halts. Few numbers, which the calls that do the arithmetic hand back; the marks are set from them at
+// the end.
 pub struct Moved {
     pub derivative: bool,
     pub differentiation: bool,
@@ -246,16 +239,6 @@ pub fn stage_halt(outcome: StageOutcome) -> Halt
         StageOutcome::Asks(i, time) => Halt::Stage(i, time),
         StageOutcome::Ends(number) => Halt::Ends(number),
         StageOutcome::Shows(error) => Halt::Shows(error),
-    }
-}
-
-pub fn factor_moved(outcome: FactorOutcome) -> Moved
-    ensures { λ r. ⌜ r ≡ factorMoved outcome ⌝ }
-{
-    match outcome {
-        FactorOutcome::Unfactored(stages) => moved_by(false, false, stage_halt(stages)),
-        FactorOutcome::Factored(stages) => moved_by(true, false, stage_halt(stages)),
-        FactorOutcome::Solved(stages) => moved_by(true, true, stage_halt(stages)),
     }
 }
 
@@ -394,23 +377,23 @@ fn first_stage(
     s: usize,
     time: f64,
     step: f64,
-) -> FactorOutcome
+) -> Moved
     requires { ⌜ Fit n s (length (now state)) (length (now work)) × PivotRows n (now pivots) ⌝ }
-    ensures { λ r. ⌜ ((m : Marks) → factorStop r (scratch m (now (work .exit)) (now (pivots .entry)))
+    ensures { λ r. ⌜ ((m : Marks) → movedStop r (scratch m (now (work .exit)) (now (pivots .entry)))
         ≡ firstStage (given (settingAt n s time step) (tableauOf (now (file .entry))) (now (state .entry)))
         (onMarks (counting countingFactorization) (scratch m (now (work .entry)) (now (pivots .entry))))) ⌝ }
 {
     stages::stage_state(work, file, state, n, s, 0);
     if !finite_at(work, 2 * n, n) {
-        return FactorOutcome::Factored(StageOutcome::Ends(stepping::NON_FINITE));
+        return moved_by(true, false, Halt::Ends(stepping::NON_FINITE));
     }
     let c = tableau::c(file, 0);
     if c == 0.0 {
         copy_within(work, 8 * n + 2 * (n * n) + s * n, 3 * n, n);
         let outcome = solve_stage(file, state, work, pivots, n, s, time, step, 0);
-        return FactorOutcome::Solved(outcome);
+        return moved_by(true, true, stage_halt(outcome));
     }
-    FactorOutcome::Factored(ask_stage(time, step, c, 0))
+    moved_by(true, false, stage_halt(ask_stage(time, step, c, 0)))
 }
 
 // ---- the matrix, its factors, then the first stage
@@ -424,21 +407,21 @@ pub fn factor(
     s: usize,
     time: f64,
     step: f64,
-) -> FactorOutcome
+) -> Moved
     requires { ⌜ Fit n s (length (now state)) (length (now work)) × (length (now pivots) ≡ n) ⌝ }
-    ensures { λ r. ⌜ ((m : Marks) → factorStop r (scratch m (now (work .exit)) (now (pivots .exit)))
+    ensures { λ r. ⌜ ((m : Marks) → movedStop r (scratch m (now (work .exit)) (now (pivots .exit)))
         ≡ factor (given (settingAt n s time step) (tableauOf (now (file .entry))) (now (state .entry))) (scratch m (now (work .entry)) (now (pivots .entry)))) ⌝ }
 {
     stages::system_matrix(work, file, n, s, step);
     if !finite_at(work, 8 * n + n * n, n * n) {
-        return FactorOutcome::Unfactored(StageOutcome::Ends(stepping::NON_FINITE));
+        return moved_by(false, false, Halt::Ends(stepping::NON_FINITE));
     }
     match stages::factorize_matrix(work, pivots, n, s) {
         Factorization::Factored => {
             return first_stage(file, state, work, pivots, n, s, time, step);
         }
         Factorization::Refused(_) => {
-            return FactorOutcome::Factored(StageOutcome::Ends(stepping::SINGULAR));
+            return moved_by(true, false, Halt::Ends(stepping::SINGULAR));
         }
     }
 }

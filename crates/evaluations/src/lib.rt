@@ -34,8 +34,7 @@ fn differentiate(
         ≡ differentiate (given g (tableauOf (now (file .entry))) (now (state .entry))) (scratch m (now (work .entry)) (now (pivots .entry)))) ⌝ }
 {
     if valid {
-        let outcome = attempts::factor(file, state, work, pivots, g.n, g.s, g.time, g.step);
-        return attempts::factor_moved(outcome);
+        return attempts::factor(file, state, work, pivots, g.n, g.s, g.time, g.step);
     }
     let halt = partials::ask_jacobian(g, state, work);
     let mut moved = attempts::moved_by(false, false, halt);

@@ -36,8 +36,7 @@ pub fn partial_done(
     if !attempts::finite_at(work, 4 * n, n) {
         return attempts::moved_by(false, false, Halt::Ends(stepping::NON_FINITE));
     }
-    let outcome = attempts::factor(file, state, work, pivots, n, g.s, g.time, g.step);
-    let mut moved = attempts::factor_moved(outcome);
+    let mut moved = attempts::factor(file, state, work, pivots, n, g.s, g.time, g.step);
     moved.differentiation = true;
     moved
 }

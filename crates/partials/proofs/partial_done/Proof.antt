@@ -6,7 +6,7 @@ use Rattle.attempts.specs.Attempt.{onMarks, partialDone}
 use Rattle.attempts.specs.Calls.{haltStop}
 use Rattle.attempts.proofs.Links.{go, ended}
 use Rattle.attempts.proofs.Settings.{factor-reduced}
-use Rattle.attempts.proofs.Moves.{unmoved, factor-as, differentiation-as}
+use Rattle.attempts.proofs.Moves.{unmoved, differentiation-as}
 use Rattle.partials.proofs.partial_done.Statement.{statement}
 use Rattle.partials.proofs.partial_done.Tie as tie
 
@@ -29,9 +29,6 @@ returns c m = unmoved _ _ (c .moved-by .ensures) (ended 2 _ _ (told-no (c .befor
 factor-requires : tie.Need-factor-requires
 factor-requires c κs = search needs
 
-factor-moved-requires : tie.Need-factor-moved-requires
-factor-moved-requires c κs = tt
-
 same-length-2 : tie.Need-same-length-2
 same-length-2 c = search needs
 
@@ -40,7 +37,7 @@ same-length-3 c = search needs
 
 returns-2 : tie.Need-returns-2
 unfolding partialDone onMarks
-returns-2 c m = differentiation-as _ m _ _ (go 2 _ (told-yes (c .before .before .before .before .before .before .before .before .before .finite-at .ensures) (c .before .before .before .before .before .before .before .before .if1 .left)) (factor-as _ _ (c .factor-moved .ensures) (c .before .before .before .before .before .factor .ensures _) ∙ factor-reduced _ _ _ _))
+returns-2 c m = differentiation-as _ m _ _ (go 2 _ (told-yes (c .before .before .before .before .before .before .before .before .finite-at .ensures) (c .before .before .before .before .before .before .before .if1 .left)) (c .before .before .before .before .factor .ensures _ ∙ factor-reduced _ _ _ _))
 
 pub partial-done-spec : {M : Type 1} → statement M
-partial-done-spec = tie.close (tie.spec mul-finite-at finite-at-requires moved-by-requires same-length returns factor-requires factor-moved-requires same-length-2 same-length-3 returns-2)
+partial-done-spec = tie.close (tie.spec mul-finite-at finite-at-requires moved-by-requires same-length returns factor-requires same-length-2 same-length-3 returns-2)
