@@ -6,7 +6,7 @@ use lib.Dec.{eqb, leb}
 use lib.Ieee.{Float}
 use Rattle.vector.specs.Parts.{part}
 use Rattle.stages.specs.Layout.{stageStateAt, probeStateAt}
-use Rattle.rosenbrock.specs.declared.StepStatistics.{StepStatistics}
+use Rattle.statistics.specs.declared.StepStatistics.{StepStatistics}
 use Rattle.refusals.specs.Answers as Answers
 use Rattle.refusals.specs.Answers.{Lent, Answer, derivative, jacobian, timePartial, number, vector, absent, request, statistics, refused, told}
 use Rattle.readers.specs.declared.Kind.{Kind}

@@ -19,7 +19,7 @@ ghost use Rattle.readers.specs.Telling.{askedBy, tells, copied, counters
 use refusals::Fixed;
 use refusals::Progress;
 use rosenbrock::RosenbrockStepper;
-use rosenbrock::StepStatistics;
+use statistics::StepStatistics;
 
 pub enum Kind {
     Derivative,

@@ -40,7 +40,8 @@ use Rattle.refusals.specs.Requests.{askOf, askNumber, askStage, requestAfter, s
 use Rattle.refusals.specs.Answers.{Lent, lending, asked, requestOf, answerOf}
 use Rattle.refusals.specs.Tests.{attemptTests, stepTests, supplyTests, fileTests, openTest, requestTest, pivotsUnfit, answerTests, lentTests}
 use Rattle.rosenbrock.specs.Calls.{givenBy, scratchBy, progressAfter, settle, opening, opened, attemptBy, attemptOf, towards, attemptToOf, supplyOf, settingBy}
-use Rattle.rosenbrock.specs.Stepper.{attempt, attempt-to, supply, called, tallied, needed, trimmed, untrimmed, Next, result, stepped, nextBy}
+use Rattle.statistics.specs.Counters.{tallied}
+use Rattle.rosenbrock.specs.Stepper.{attempt, attempt-to, supply, called, needed, trimmed, untrimmed, Next, result, stepped, nextBy}
 use Rattle.rosenbrock.specs.Contracts.{systemOf, answerBy, nextOf, marksBy, answerAfter, outcomeAfter, replied, repliedAttempt}
 use Rattle.refusals.proofs.Requests.{read-back, in-range}
 use Rattle.refusals.proofs.Fitting.{Shape, fits-passed}

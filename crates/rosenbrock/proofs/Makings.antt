@@ -14,13 +14,14 @@ use Rattle.tableau.specs.Tableau.{stagesOf}
 use Rattle.tableau.specs.File.{tableauOf, accepts}
 use Rattle.stages.specs.Layout.{neededWork}
 use Rattle.refusals.specs.declared.Progress.{Progress}
-use Rattle.rosenbrock.specs.declared.StepStatistics.{StepStatistics}
+use Rattle.statistics.specs.declared.StepStatistics.{StepStatistics}
 use Rattle.rosenbrock.specs.declared.Making.the-variants.{Made, Refused}
 use Rattle.refusals.specs.Answers.{Lent, lending}
 use Rattle.refusals.specs.Tests.{shapeFits, finiteTest, makingTests, lentNewTests}
 use Rattle.rosenbrock.specs.Calls.{fresh, cleared}
 use Rattle.rosenbrock.specs.Stepper as Stepper
-use Rattle.rosenbrock.specs.Stepper.{noStatistics, needed, trimmed, untrimmed, not-made, fixedBy, madeOf, make}
+use Rattle.statistics.specs.Counters.{noStatistics}
+use Rattle.rosenbrock.specs.Stepper.{needed, trimmed, untrimmed, not-made, fixedBy, madeOf, make}
 use Rattle.rosenbrock.specs.Contracts.{afterMaking, memoryAfter, makingOf, madeBy}
 use Rattle.refusals.proofs.Fitting.{Shape, shape-of}
 

@@ -18,7 +18,7 @@ use Rattle.attempts.specs.declared.Counted.{Counted}
 use Rattle.attempts.specs.declared.Memo.{Memo}
 use Rattle.attempts.specs.Marks.{withCaches, nothingCounted, oneAccepted, oneRejected}
 use Rattle.refusals.specs.declared.Progress.{Progress}
-use Rattle.rosenbrock.specs.declared.StepStatistics.{StepStatistics}
+use Rattle.statistics.specs.declared.StepStatistics.{StepStatistics}
 use Rattle.rosenbrock.specs.declared.RosenbrockStepper.{RosenbrockStepper}
 use Rattle.rosenbrock.specs.declared.Answer.{Answer}
 use Rattle.rosenbrock.specs.declared.Answer.the-variants.{Done, Refused}
@@ -27,7 +27,8 @@ use Rattle.refusals.specs.Answers.{Lent, lending, refused, candidateOf}
 use Rattle.refusals.specs.Answers as Answers
 use Rattle.refusals.specs.Tests.{decisionTests, failTests, injectTests, resetTests, openTest, pendingTest, candidateTest, requestTest, lengthTest, finiteTest, lentTests}
 use Rattle.rosenbrock.specs.Calls.{Out, refusal, guarded, progressAfter, memoAccepted, accepted, acceptOf, rejected, rejectOf, failed, failOf, injected, injectOf, fresh, cleared, restarted, resetOf}
-use Rattle.rosenbrock.specs.Stepper.{Call, by-value, accept, reject, fail, inject-derivative, reset, called, oneMore, tallied, needed, trimmed, untrimmed, result, stepped, nextBy}
+use Rattle.statistics.specs.Counters.{oneMore, tallied}
+use Rattle.rosenbrock.specs.Stepper.{Call, by-value, accept, reject, fail, inject-derivative, reset, called, needed, trimmed, untrimmed, result, stepped, nextBy}
 use Rattle.rosenbrock.specs.Contracts.{systemOf, answerBy, nextOf}
 use Rattle.rosenbrock.proofs.Guards.{guarded-passed}
 use Rattle.rosenbrock.proofs.Readers.{untrimmed-same}

@@ -6,11 +6,12 @@ use Rattle.attempts.specs.declared.Counted.{Counted}
 use Rattle.attempts.specs.Marks.{nothingCounted}
 use Rattle.refusals.specs.declared.Fixed.{Fixed}
 use Rattle.refusals.specs.declared.Progress.{Progress}
-use Rattle.rosenbrock.specs.declared.StepStatistics.{StepStatistics}
+use Rattle.statistics.specs.declared.StepStatistics.{StepStatistics}
 use Rattle.refusals.specs.Answers.{Lent}
 use Rattle.rosenbrock.specs.Calls.{Out, refusal}
 use Rattle.rosenbrock.specs.Readers.{Query, answered, readOf}
-use Rattle.rosenbrock.specs.Stepper.{read, called, oneMore, tallied, System, needed, trimmed, untrimmed, result, stepped}
+use Rattle.statistics.specs.Counters.{oneMore, tallied}
+use Rattle.rosenbrock.specs.Stepper.{read, called, System, needed, trimmed, untrimmed, result, stepped}
 use Rattle.rosenbrock.proofs.Guards.{guarded-either}
 
 record Leaves (x : Progress) (m : Lent) (o : Out) : Type 0 where

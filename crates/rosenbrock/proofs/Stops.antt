@@ -4,12 +4,12 @@ use mathlib.Core.Path.{_≡_}
 use Rattle.attempts.specs.declared.Stop.{Stop}
 use Rattle.refusals.specs.declared.Fixed.{Fixed}
 use Rattle.refusals.specs.declared.Progress.{Progress}
-use Rattle.rosenbrock.specs.declared.StepStatistics.{StepStatistics}
+use Rattle.statistics.specs.declared.StepStatistics.{StepStatistics}
 use Rattle.rosenbrock.specs.declared.Answer.{Answer}
 use Rattle.rosenbrock.specs.declared.Outcome.{Outcome}
 use Rattle.refusals.specs.Requests.{requestAfter, stageAfter}
 use Rattle.rosenbrock.specs.Calls.{progressAfter}
-use Rattle.rosenbrock.specs.Stepper.{tallied}
+use Rattle.statistics.specs.Counters.{tallied}
 use Rattle.rosenbrock.specs.Contracts.{answerAfter, outcomeAfter}
 
 abbrev outcome : Fixed → Progress → Stop → ℕ → ℕ → StepStatistics → Answer → Outcome

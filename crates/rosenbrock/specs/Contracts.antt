@@ -13,7 +13,7 @@ use Rattle.attempts.specs.declared.Stop.{Stop}
 use Rattle.attempts.specs.Calls.{stopBy}
 use Rattle.refusals.specs.declared.Fixed.{Fixed}
 use Rattle.refusals.specs.declared.Progress.{Progress}
-use Rattle.rosenbrock.specs.declared.StepStatistics.{StepStatistics}
+use Rattle.statistics.specs.declared.StepStatistics.{StepStatistics}
 use Rattle.rosenbrock.specs.declared.RosenbrockStepper.{RosenbrockStepper}
 use Rattle.rosenbrock.specs.declared.Answer as code
 use Rattle.rosenbrock.specs.declared.Answer.the-variants.{Asked, Shown, Done, Refused}
@@ -25,7 +25,8 @@ use Rattle.rosenbrock.specs.declared.Making.the-variants as making
 use Rattle.refusals.specs.Requests.{askOf, requestAfter, stageAfter}
 use Rattle.refusals.specs.Answers.{Lent, lending, Answer, refused, asked, shown, done, requestOf, viewOf}
 use Rattle.rosenbrock.specs.Calls.{progressAfter, opening}
-use Rattle.rosenbrock.specs.Stepper.{System, tallied, needed, trimmed, Next, Made, not-made, made, make}
+use Rattle.statistics.specs.Counters.{tallied}
+use Rattle.rosenbrock.specs.Stepper.{System, needed, trimmed, Next, Made, not-made, made, make}
 
 -- a record with the memory lent to it
 abbrev pub systemOf : RosenbrockStepper → List Float → List Float → List ℕ → System

@@ -1,19 +1,17 @@
 -- A stepper with all that is lent to it, its making, and one call after it. Definitions only.
 use Prim.Native.Nat.{ℕ}
-use mathlib.Core.Bool.{Bool, cond}
+use mathlib.Core.Bool.{Bool}
 use mathlib.Core.List.{List, _++_}
 use lib.ListN.{length, take, drop}
 use lib.Ieee.{Float}
-use Rattle.float.specs.Counter.{saturatingIncrement}
 use Rattle.stepping.specs.Refusals.{firstOf, unlessRefused}
 use Rattle.time_difference.specs.declared.TimeDifferencePolicy.{TimeDifferencePolicy}
 use Rattle.tableau.specs.Tableau.{stagesOf}
 use Rattle.tableau.specs.File.{tableauOf}
 use Rattle.stages.specs.Layout.{neededWork}
-use Rattle.attempts.specs.declared.Counted.{Counted}
 use Rattle.refusals.specs.declared.Fixed.{Fixed}
 use Rattle.refusals.specs.declared.Progress.{Progress}
-use Rattle.rosenbrock.specs.declared.StepStatistics.{StepStatistics}
+use Rattle.statistics.specs.Counters.{tallied, noStatistics}
 use Rattle.rosenbrock.specs.declared.RosenbrockStepper.{RosenbrockStepper}
 use Rattle.refusals.specs.Answers.{Lent, lending, Answer}
 use Rattle.refusals.specs.Tests.{makingTests}
@@ -48,35 +46,6 @@ called fx (reject f) x m = rejectOf fx x m
 called fx (inject-derivative derivative) x m = injectOf fx derivative x m
 called fx (reset time state) x m = resetOf fx time state x m
 called fx (read q) x m = readOf q fx x m
-
--- ---- the counters
-
-unfoldable pub oneMore : Bool → ℕ → ℕ
-oneMore b k = cond b (saturatingIncrement k) k
-
-unfoldable pub tallied : Counted → StepStatistics → StepStatistics
-tallied c t =
-    record {
-      attempts = oneMore (c .attempts) (t .attempts);
-      «rhs_evaluations» = oneMore (c .«rhs_evaluations») (t .«rhs_evaluations»);
-      «accepted_steps» = oneMore (c .«accepted_steps») (t .«accepted_steps»);
-      «rejected_steps» = oneMore (c .«rejected_steps») (t .«rejected_steps»);
-      «jacobian_evaluations» = oneMore (c .«jacobian_evaluations») (t .«jacobian_evaluations»);
-      factorizations = oneMore (c .factorizations) (t .factorizations);
-      «linear_solves» = oneMore (c .«linear_solves») (t .«linear_solves»);
-    }
-
-abbrev pub noStatistics : StepStatistics
-noStatistics =
-    record {
-      attempts = 0;
-      «rhs_evaluations» = 0;
-      «accepted_steps» = 0;
-      «rejected_steps» = 0;
-      «jacobian_evaluations» = 0;
-      factorizations = 0;
-      «linear_solves» = 0;
-    }
 
 -- ---- a stepper with its memory
 

@@ -8,7 +8,7 @@ ghost use Rattle.attempts.specs.Calls.{stopBy};
 ghost use Rattle.refusals.specs.Tests.{shapeFits};
 ghost use Rattle.refusals.specs.Answers.{lending};
 ghost use Rattle.rosenbrock.specs.Calls.{settingBy, memoAccepted, fresh, opening, attemptBy};
-ghost use Rattle.rosenbrock.specs.Stepper.{oneMore, tallied, noStatistics, needed, trimmed, by-value, attempt, attempt-to, supply, fail, accept, reject, inject-derivative, reset, nextBy, stepped};
+ghost use Rattle.rosenbrock.specs.Stepper.{needed, trimmed, by-value, attempt, attempt-to, supply, fail, accept, reject, inject-derivative, reset, nextBy, stepped};
 ghost use Rattle.rosenbrock.specs.Contracts.{marksBy, answerAfter, outcomeAfter, systemOf, nextOf, replied, repliedAttempt, refusedBy, madeBy, makingOf};
 use attempts::Counted;
 use attempts::Ending;
@@ -19,19 +19,9 @@ use attempts::Setting;
 use attempts::Stop;
 use refusals::Fixed;
 use refusals::Progress;
+use statistics::StepStatistics;
 use stepping::Endpoint;
 use time_difference::TimeDifferencePolicy;
-
-#[repr(C)]
-pub struct StepStatistics {
-    pub attempts: u64,
-    pub rhs_evaluations: u64,
-    pub accepted_steps: u64,
-    pub rejected_steps: u64,
-    pub jacobian_evaluations: u64,
-    pub factorizations: u64,
-    pub linear_solves: u64,
-}
 
 #[repr(C)]
 pub struct RosenbrockStepper {
@@ -75,41 +65,6 @@ fn answer_after(ending: Ending) -> Answer
         Ending::Asks(ask) => Answer::Asked,
         Ending::Ends(number) => Answer::Refused(number),
         Ending::Shows => Answer::Shown,
-    }
-}
-
-// ---- the counters
-
-fn one_more(on: bool, count: u64) -> u64
-    ensures { λ r. ⌜ r ≡ oneMore on count ⌝ }
-{
-    if on {
-        return float::saturating_increment(count);
-    }
-    count
-}
-
-fn tallied(counted: Counted, statistics: StepStatistics) -> StepStatistics
-    ensures { λ r. ⌜ r ≡ tallied counted statistics ⌝ }
-{
-    let attempts = one_more(counted.attempts, statistics.attempts);
-    let rhs_evaluations = one_more(counted.rhs_evaluations, statistics.rhs_evaluations);
-    let accepted_steps = one_more(counted.accepted_steps, statistics.accepted_steps);
-    let rejected_steps = one_more(counted.rejected_steps, statistics.rejected_steps);
-    let jacobian_evaluations = one_more(
-        counted.jacobian_evaluations,
-        statistics.jacobian_evaluations,
-    );
-    let factorizations = one_more(counted.factorizations, statistics.factorizations);
-    let linear_solves = one_more(counted.linear_solves, statistics.linear_solves);
-    StepStatistics {
-        attempts,
-        rhs_evaluations,
-        accepted_steps,
-        rejected_steps,
-        jacobian_evaluations,
-        factorizations,
-        linear_solves,
     }
 }
 
@@ -228,7 +183,7 @@ fn settled(fixed: Fixed, progress: Progress, statistics: StepStatistics, stop: S
     after.memo.request_time = memo.request_time;
     after.request = refusals::request_after(ending);
     after.stage = refusals::stage_after(ending);
-    let counters = tallied(counted, statistics);
+    let counters = statistics::tallied(counted, statistics);
     let answer = answer_after(ending);
     let stepper = RosenbrockStepper {
         fixed,
@@ -245,20 +200,6 @@ pub fn refused_by(reply: Reply) -> u32
     match reply {
         Reply::Refused(number) => number,
         Reply::Moved(moved) => 0,
-    }
-}
-
-fn no_statistics() -> StepStatistics
-    ensures { λ r. ⌜ r ≡ noStatistics ⌝ }
-{
-    StepStatistics {
-        attempts: 0,
-        rhs_evaluations: 0,
-        accepted_steps: 0,
-        rejected_steps: 0,
-        jacobian_evaluations: 0,
-        factorizations: 0,
-        linear_solves: 0,
     }
 }
 
@@ -288,7 +229,7 @@ impl RosenbrockStepper {
         vector::zero(pivots);
         let fixed = Fixed { n, s, policy };
         let progress = fresh(time);
-        let statistics = no_statistics();
+        let statistics = statistics::no_statistics();
         let stepper = RosenbrockStepper {
             fixed,
             progress,

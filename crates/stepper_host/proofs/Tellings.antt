@@ -3,7 +3,7 @@ use Prim.Native.Nat.{ℕ}
 use mathlib.Core.Path.{_≡_, refl, sym, ap, _∙_}
 use mathlib.Core.List.{List}
 use lib.Ieee.{Float}
-use Rattle.rosenbrock.specs.declared.StepStatistics.{StepStatistics}
+use Rattle.statistics.specs.declared.StepStatistics.{StepStatistics}
 use Rattle.refusals.specs.Answers.{Lent, Answer}
 use Rattle.readers.specs.declared.Kind.the-variants.{Derivative, Jacobian, TimePartial}
 use Rattle.readers.specs.declared.Told.{Told}

@@ -6,7 +6,8 @@ use Rattle.rosenbrock.specs.declared.Answer as code
 use Rattle.rosenbrock.specs.declared.Outcome.{Outcome}
 use Rattle.refusals.specs.Answers.{Lent}
 use Rattle.rosenbrock.specs.Calls.{fresh}
-use Rattle.rosenbrock.specs.Stepper.{Next, Made, not-made, made, noStatistics}
+use Rattle.statistics.specs.Counters.{noStatistics}
+use Rattle.rosenbrock.specs.Stepper.{Next, Made, not-made, made}
 use Rattle.rosenbrock.specs.Contracts.{AfterMaking}
 use Rattle.in_place.specs.Numbers.{kindOf, numberOf, kindIn, numberIn}
 use Rattle.stepper_host.specs.declared.StepperAnswer.{StepperAnswer}

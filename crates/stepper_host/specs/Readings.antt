@@ -6,9 +6,9 @@ use mathlib.Core.List.{List}
 use lib.Dec.{eqb}
 use lib.Ieee.{Float}
 use Rattle.float.specs.Operators.{𝟎}
-use Rattle.rosenbrock.specs.declared.StepStatistics.{StepStatistics}
+use Rattle.statistics.specs.declared.StepStatistics.{StepStatistics}
 use Rattle.refusals.specs.Answers.{Lent, Reply, number, vector, absent, request, statistics, Answer, refused, asked, shown, told, done}
-use Rattle.rosenbrock.specs.Stepper.{noStatistics}
+use Rattle.statistics.specs.Counters.{noStatistics}
 use Rattle.readers.specs.declared.Kind.{Kind}
 use Rattle.readers.specs.declared.Kind.the-variants.{Derivative, Jacobian, TimePartial}
 use Rattle.readers.specs.declared.Told.{Told}

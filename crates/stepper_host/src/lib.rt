@@ -17,7 +17,7 @@ use refusals::Progress;
 use rosenbrock::Making;
 use rosenbrock::Outcome;
 use rosenbrock::RosenbrockStepper;
-use rosenbrock::StepStatistics;
+use statistics::StepStatistics;
 use time_difference::Bounds;
 use time_difference::TimeDifferencePolicy;
 

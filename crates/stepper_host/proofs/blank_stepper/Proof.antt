@@ -1,6 +1,6 @@
 -- `stepper_host::blank_stepper` meets its contract. Assumes nothing.
 use mathlib.Core.Path.{ap}
-use Rattle.rosenbrock.specs.declared.StepStatistics.{StepStatistics}
+use Rattle.statistics.specs.declared.StepStatistics.{StepStatistics}
 use Rattle.rosenbrock.specs.declared.RosenbrockStepper.{RosenbrockStepper}
 use Rattle.rosenbrock.specs.Calls.{fresh}
 use Rattle.stepper_host.specs.Handed.{blankStepper}

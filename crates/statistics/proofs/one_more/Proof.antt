@@ -1,9 +1,9 @@
--- `rosenbrock::one_more` meets its contract. Assumes nothing.
+-- `statistics::one_more` meets its contract. Assumes nothing.
 use mathlib.Core.Path.{refl}
 use Rattle.float.proofs.Cases.{yes, no}
-use Rattle.rosenbrock.specs.Stepper.{oneMore}
-use Rattle.rosenbrock.proofs.one_more.Statement.{statement}
-use Rattle.rosenbrock.proofs.one_more.Tie as tie
+use Rattle.statistics.specs.Counters.{oneMore}
+use Rattle.statistics.proofs.one_more.Statement.{statement}
+use Rattle.statistics.proofs.one_more.Tie as tie
 
 saturating-increment-requires : tie.Need-saturating-increment-requires
 saturating-increment-requires c κs = tt

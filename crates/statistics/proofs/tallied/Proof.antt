@@ -1,7 +1,7 @@
--- `rosenbrock::tallied` meets its contract: counter by counter. Assumes nothing.
-use Rattle.rosenbrock.specs.Stepper.{tallied}
-use Rattle.rosenbrock.proofs.tallied.Statement.{statement}
-use Rattle.rosenbrock.proofs.tallied.Tie as tie
+-- `statistics::tallied` meets its contract: counter by counter. Assumes nothing.
+use Rattle.statistics.specs.Counters.{tallied}
+use Rattle.statistics.proofs.tallied.Statement.{statement}
+use Rattle.statistics.proofs.tallied.Tie as tie
 
 one-more-requires : tie.Need-one-more-requires
 one-more-requires c κs = tt
