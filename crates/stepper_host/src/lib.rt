@@ -90,20 +90,6 @@ fn step_answer(outcome: Outcome) -> StepperAnswer
     }
 }
 
-fn no_statistics() -> StepStatistics
-    ensures { λ r. ⌜ r ≡ call.noStatistics ⌝ }
-{
-    StepStatistics {
-        attempts: 0,
-        rhs_evaluations: 0,
-        accepted_steps: 0,
-        rejected_steps: 0,
-        jacobian_evaluations: 0,
-        factorizations: 0,
-        linear_solves: 0,
-    }
-}
-
 // A record without a stepper: n and s are 0, so that every call refuses it with 1.
 fn blank_stepper() -> RosenbrockStepper
     ensures { λ r. ⌜ r ≡ blankStepper ⌝ }
@@ -139,7 +125,7 @@ fn blank_stepper() -> RosenbrockStepper
         stage: 0,
         memo,
     };
-    let statistics = no_statistics();
+    let statistics = statistics::no_statistics();
     RosenbrockStepper {
         fixed,
         progress,
@@ -396,7 +382,7 @@ fn refusal_of(told: Told) -> u32
 fn counters_of(told: Told) -> StepStatistics
     ensures { λ r. ⌜ r ≡ countersOf told ⌝ }
 {
-    let none = no_statistics();
+    let none = statistics::no_statistics();
     match told {
         Told::Number(_) => none,
         Told::State => none,
