@@ -88,7 +88,7 @@ movedMarks r m =
 unfoldable pub movedStop : Moved → Scratch → Stopped
 movedStop r x = haltStop (r .halt) (onMarks (movedMarks r) x)
 
--- the memory is not read for it
+-- how it stops with these marks; the memory is not read for it
 unfoldable pub stopBy : Moved → Marks → Stop
 stopBy r m = movedStop r (scratch m [] []) .stop
 

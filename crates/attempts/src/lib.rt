@@ -14,7 +14,7 @@ ghost use Rattle.tableau.specs.File.{tableauOf};
 ghost use Rattle.stages.specs.Layout.{Stage, PivotRows};
 ghost use Rattle.stages.specs.Memory.{component};
 ghost use Rattle.attempts.specs.Marks.{countingFactorization, countingSolve, counting};
-ghost use Rattle.attempts.specs.Attempt.{Scratch, given, scratch, stopped, onMarks, refuse, ask, askRhs, show, finish, askStage, openStage, nextStage, solveStage, firstStage, factor};
+ghost use Rattle.attempts.specs.Attempt.{Scratch, given, scratch, onMarks, refuse, ask, askRhs, finish, askStage, openStage, nextStage, solveStage, firstStage, factor};
 ghost use Rattle.attempts.specs.Calls.{Fit, Stops, settingAt, haltStop, movedStop, movedBy, stageHalt, stageStop};
 use linear::Factorization;
 use time_difference::TimeDifferencePolicy;

@@ -3,7 +3,7 @@
 // where this one stops.
 ghost use mathlib.Core.Path.{_≡_};
 ghost use mathlib.Core.List.{List};
-ghost use Prim.Native.Nat.{ℕ, _+_, _*_, _≤_, _<_};
+ghost use Prim.Native.Nat.{ℕ, _<_};
 ghost use lib.ListN.{length};
 ghost use Rattle.tableau.specs.Tableau.{Tableau};
 ghost use Rattle.tableau.specs.File.{tableauOf};

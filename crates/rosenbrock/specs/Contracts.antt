@@ -105,7 +105,7 @@ outcomeAfter fx x t r =
       answer = answerAfter ending;
     }
 
--- what a reply says of the record it was given for: a refusal leaves it, and where the attempt stopped it goes on
+-- what a reply makes of the record that it was given for: a refusal leaves it, and what the attempt moved is set in it
 unfoldable pub replied : RosenbrockStepper → Reply → Outcome
 replied y (reply.Refused k) = record { stepper = y; answer = Refused k }
 replied y (reply.Moved r) = outcomeAfter (y .fixed) (y .progress) (y .statistics) (stopBy r (marksBy (y .progress .memo) false))

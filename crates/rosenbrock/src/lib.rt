@@ -46,7 +46,7 @@ pub struct Outcome {
 }
 
 // What a call that opens or continues an attempt hands back before the record is moved: a refusal,
-// which changes nothing, or where the open attempt stopped.
+// which changes nothing, or what the open attempt moved.
 pub enum Reply {
     Refused(u32),
     Moved(Moved),
@@ -193,7 +193,7 @@ fn settled(fixed: Fixed, progress: Progress, statistics: StepStatistics, stop: S
     Outcome { stepper, answer }
 }
 
-// The number of a refusal that changes nothing, and 0 where the attempt stopped.
+// The number of a refusal that changes nothing, and 0 where something was moved.
 pub fn refused_by(reply: Reply) -> u32
     ensures { λ r. ⌜ r ≡ refusedBy reply ⌝ }
 {
