@@ -1,5 +1,5 @@
-//! Links the archives that `rt staticlib` writes for host, stepper_host, in_place_host and
-//! endpoint_host.
+//! Links the archives that `rt staticlib` writes for host, stepper_host, in_place_host, attempt_host
+//! and endpoint_host.
 use std::env;
 use std::path::Path;
 
@@ -8,7 +8,13 @@ fn main() {
     let folder = Path::new(&package).join("../target/staticlib");
     println!("cargo::rerun-if-changed=build.rs");
     println!("cargo::rustc-link-search=native={}", folder.display());
-    for library in ["host", "stepper_host", "in_place_host", "endpoint_host"] {
+    for library in [
+        "host",
+        "stepper_host",
+        "in_place_host",
+        "attempt_host",
+        "endpoint_host",
+    ] {
         let archive = folder.join(format!("lib{library}.a"));
         println!("cargo::rerun-if-changed={}", archive.display());
         if archive.is_file() {

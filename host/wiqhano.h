@@ -1,6 +1,7 @@
-/* The calls that the proved library exports, for C11 on x86-64. Link libin_place_host.a and, for
-   attempt_to, libendpoint_host.a for the stepper's that end in _in_place, libstepper_host.a for its
-   others and libhost.a for all others (target/staticlib, written by ./test or rt staticlib).
+/* The calls that the proved library exports, for C11 on x86-64. Link libin_place_host.a,
+   for attempt libattempt_host.a and for attempt_to libendpoint_host.a for the stepper's that end in
+   _in_place, libstepper_host.a for its others and libhost.a for all others (target/staticlib, written by
+   ./test or rt staticlib).
 
    A slice is a pointer and the number of its elements. No call keeps a pointer, and none reads or
    writes beyond the slices that it is lent; slices that are lent to be changed may not overlap others.

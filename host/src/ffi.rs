@@ -1,5 +1,5 @@
-//! What crates/host, crates/stepper_host, crates/in_place_host and crates/endpoint_host export, under
-//! C's calling convention.
+//! What crates/host, crates/stepper_host, crates/in_place_host, crates/attempt_host and
+//! crates/endpoint_host export, under C's calling convention.
 
 /// `number`: the refusal, 0 for none.
 #[repr(C)]

@@ -1,5 +1,6 @@
 //! The proved stepper for a Rust host: the calls that crates/host, crates/stepper_host,
-//! crates/in_place_host and crates/endpoint_host export, in the shape of the original's.
+//! crates/in_place_host, crates/attempt_host and crates/endpoint_host export, in the shape of the
+//! original's.
 pub mod controller;
 mod dense;
 mod failure;

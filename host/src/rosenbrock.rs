@@ -6,13 +6,13 @@ pub mod reading;
 
 use crate::{Failure, TimeDifferencePolicy, tableau};
 use calls::{Answer, Memory, Modes, Record, Told};
-use reading::Asked;
 use std::fmt;
+use std::ops::Range;
 
 pub use calls::{Ask, StepStatistics};
 
 /// A Jacobian, by rows, or a time partial at a fixed state: time, state, and where to write. What
-/// is not written is 0.
+/// is not written stays as it was last written there, 0 at first and after a reset.
 pub type DerivativeHook<'a, E> = dyn FnMut(f64, &[f64], &mut [f64]) -> Result<(), E> + 'a;
 
 /// A refusal, or the error of one of the host's functions.
@@ -89,7 +89,7 @@ pub struct RosenbrockStepper {
     file: Vec<u8>,
     record: Record,
     memory: Memory,
-    /// What the host's functions write.
+    /// What the host's functions write: at `written`.
     values: Vec<f64>,
 }
 
@@ -111,7 +111,7 @@ impl RosenbrockStepper {
         Ok(Self {
             file: tableau.to_vec(),
             record,
-            values: vec![0.0; state.len() * state.len()],
+            values: vec![0.0; written(&record, Ask::Jacobian).end],
             memory,
         })
     }
@@ -194,16 +194,13 @@ impl RosenbrockStepper {
         let open = Open(self);
         while answer? == Told::Asked {
             let stepper = &mut *open.0;
-            let request = direct::request(&stepper.record, &stepper.memory).expect("a request");
-            let values = &mut stepper.values[..request.wanted()];
-            values.fill(0.0);
-            let (time, state) = (request.time, request.state);
-            let told = match request.asked {
-                Asked::Derivative => rhs(time, state, values),
-                Asked::Jacobian => jacobian.as_mut().expect("a Jacobian")(time, state, values),
-                Asked::TimePartial => {
-                    time_partial.as_mut().expect("a partial")(time, state, values)
-                }
+            let ask = Ask::of(&stepper.record).expect("a request");
+            let (time, state) = direct::asked_at(&stepper.record, &stepper.memory, ask);
+            let values = &mut stepper.values[written(&stepper.record, ask)];
+            let told = match ask {
+                Ask::Jacobian => jacobian.as_mut().expect("a Jacobian")(time, state, values),
+                Ask::TimePartial => time_partial.as_mut().expect("a partial")(time, state, values),
+                _ => rhs(time, state, values),
             };
             told.map_err(StepError::User)?;
             let (record, lent) = (&mut stepper.record, stepper.memory.lend());
@@ -231,8 +228,26 @@ impl RosenbrockStepper {
 
     /// Starts again, with as many components.
     pub fn reset(&mut self, time: f64, state: &[f64]) -> Result<(), Failure> {
-        calls::reset(&mut self.record, time, state, self.memory.lend()).map(|_| ())
+        calls::reset(&mut self.record, time, state, self.memory.lend())?;
+        self.values.fill(0.0);
+        Ok(())
     }
+}
+
+/// Where the host's function writes what is asked for. As in the original each of these has a place of
+/// its own: the derivative, the time partial with its first probe, the other probes, the stages, the
+/// Jacobian.
+#[inline(always)]
+fn written(record: &Record, ask: Ask) -> Range<usize> {
+    let (n, s) = (record.fixed.n, record.fixed.s);
+    let at = match ask {
+        Ask::Derivative => 0,
+        Ask::TimePartial | Ask::FirstProbe => n,
+        Ask::SecondProbe | Ask::Column(_) => 2 * n,
+        Ask::Stage(i) => (3 + i) * n,
+        Ask::Jacobian => return (3 + s) * n..(3 + s + n) * n,
+    };
+    at..at + n
 }
 
 fn modes<E>(

@@ -215,7 +215,13 @@ fn a_c_program_runs() {
         .arg(&program)
         .arg("-L")
         .arg(archives)
-        .args(["-lhost", "-lstepper_host", "-lin_place_host", "-lendpoint_host"])
+        .args([
+            "-lhost",
+            "-lstepper_host",
+            "-lin_place_host",
+            "-lattempt_host",
+            "-lendpoint_host",
+        ])
         .status();
     assert!(
         compiled

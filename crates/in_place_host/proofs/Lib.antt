@@ -1,3 +1,3 @@
 -- Laws that the proofs cite.
 pub mod Steps
-mod Locals
+pub mod Locals

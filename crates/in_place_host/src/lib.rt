@@ -1,11 +1,11 @@
 // The calls on a stepper record that is lent by pointer, for a host in another language, under C's
-// calling convention. No logic of its own. A supply and an attempt hand back a reply before the record
-// is moved: a refusal stores nothing, and otherwise the new record is a function of the old one, read
-// where it lies, and the reply alone, so that a field that stays need not be stored.
+// calling convention. No logic of its own. A supply hands back a reply before the record is moved: a
+// refusal stores nothing, and otherwise the new record is a function of the old one, read where it
+// lies, and the reply alone, so that a field that stays need not be stored.
 ghost use mathlib.Core.Path.{_≡_};
 ghost use Rattle.rosenbrock.specs.Stepper.{stepped};
 ghost use Rattle.rosenbrock.specs.Stepper as call;
-ghost use Rattle.rosenbrock.specs.Contracts.{systemOf, replied, repliedAttempt};
+ghost use Rattle.rosenbrock.specs.Contracts.{systemOf, replied};
 ghost use Rattle.in_place.specs.Landing.{landed};
 ghost use Rattle.in_place_host.specs.Handed.{ofAnswer, inNumbers, handed, asNumbers};
 use rosenbrock::Answer;
@@ -56,53 +56,7 @@ fn moved_by(stepper: RosenbrockStepper, reply: Reply) -> Stepped
     in_numbers(outcome)
 }
 
-// The same after a reply to an attempt.
-fn opened_by(
-    stepper: RosenbrockStepper,
-    step: f64,
-    host_jacobian: bool,
-    host_time_partial: bool,
-    reply: Reply,
-) -> Stepped
-    ensures { λ r. ⌜ r ≡ inNumbers (repliedAttempt stepper step «host_jacobian» «host_time_partial» reply) ⌝ }
-{
-    let outcome = stepper.replied_attempt(step, host_jacobian, host_time_partial, reply);
-    in_numbers(outcome)
-}
-
 // ---- on the lent record
-
-#[no_mangle]
-pub extern "C" fn wiqhano_stepper_attempt_in_place(
-    stepper: &mut RosenbrockStepper,
-    file: &[u8],
-    step: f64,
-    host_jacobian: bool,
-    host_time_partial: bool,
-    state: &[f64],
-    work: &mut [f64],
-    pivots: &mut [usize],
-) -> CallAnswer
-    ensures { λ r. ⌜ handed r (systemOf (now (stepper .exit)) (now (state .entry)) (now (work .exit)) (now (pivots .exit)))
-        ≡ asNumbers (stepped (call.attempt (now (file .entry)) step «host_jacobian» «host_time_partial») (systemOf (now (stepper .entry)) (now (state .entry)) (now (work .entry)) (now (pivots .entry)))) ⌝ }
-{
-    let reply = stepper.attempted(
-        file,
-        step,
-        host_jacobian,
-        host_time_partial,
-        state,
-        work,
-        pivots,
-    );
-    let number = rosenbrock::refused_by(reply);
-    if number != 0 {
-        return CallAnswer { kind: 0, number };
-    }
-    let after = opened_by(*stepper, step, host_jacobian, host_time_partial, reply);
-    *stepper = after.stepper;
-    after.answer
-}
 
 #[no_mangle]
 pub extern "C" fn wiqhano_stepper_supply_in_place(

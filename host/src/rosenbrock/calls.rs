@@ -34,6 +34,7 @@ pub enum Ask {
 
 impl Ask {
     /// None where no attempt is open.
+    #[inline(always)]
     pub fn of(record: &Record) -> Option<Self> {
         let stage = record.progress.stage;
         Some(match record.progress.request {

@@ -10,19 +10,27 @@ use std::ops::Range;
 /// None where no attempt is open.
 pub fn request<'a>(record: &Record, memory: &'a Memory) -> Option<Request<'a>> {
     let ask = Ask::of(record)?;
+    let (time, state) = asked_at(record, memory, ask);
     Some(Request {
         asked: match ask {
             Ask::Jacobian => Asked::Jacobian,
             Ask::TimePartial => Asked::TimePartial,
             _ => Asked::Derivative,
         },
-        time: record.progress.memo.request_time,
-        state: match ask {
-            Ask::Column(_) => part(record, memory, Part::ProbeState),
-            Ask::Stage(_) => part(record, memory, Part::StageState),
-            _ => &memory.state,
-        },
+        time,
+        state,
     })
+}
+
+/// The time and the state at which it is asked.
+#[inline(always)]
+pub fn asked_at<'a>(record: &Record, memory: &'a Memory, ask: Ask) -> (f64, &'a [f64]) {
+    let state = match ask {
+        Ask::Column(_) => part(record, memory, Part::ProbeState),
+        Ask::Stage(_) => part(record, memory, Part::StageState),
+        _ => &memory.state,
+    };
+    (record.progress.memo.request_time, state)
 }
 
 /// The step that a pending candidate belongs to.
@@ -68,10 +76,12 @@ pub enum Part {
     RhsStages,
 }
 
+#[inline(always)]
 pub fn part<'a>(record: &Record, memory: &'a Memory, which: Part) -> &'a [f64] {
     &memory.work[place(record.fixed.n, record.fixed.s, which)]
 }
 
+#[inline(always)]
 fn place(n: usize, s: usize, which: Part) -> Range<usize> {
     let k = which as usize;
     match which {

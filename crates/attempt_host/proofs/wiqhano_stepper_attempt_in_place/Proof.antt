@@ -1,4 +1,4 @@
--- `in_place_host::wiqhano_stepper_attempt_in_place` meets its contract: a walk of its code by hand, which knows of `attempted`, `refused_by` and `opened_by` only their contracts. Assumes nothing.
+-- `attempt_host::wiqhano_stepper_attempt_in_place` meets its contract: a walk of its code by hand, which knows of `attempted`, `refused_by` and `opened_by` only their contracts. Assumes nothing.
 use mathlib.Core.Path.{_≡_, refl, ap}
 use Prim.Native.Nat.{ℕ}
 use mathlib.Core.Option.{Option, some as full, none as vacant}
@@ -70,15 +70,15 @@ use Rattle.rosenbrock.proofs.refused_by as number
 use Rattle.rosenbrock.proofs.refused_by.Symbol as number-def
 use Rattle.rosenbrock.proofs.refused_by.Symbol.{name as #refused-by}
 use Rattle.rosenbrock.proofs.refused_by.Met as number-thm
-use Rattle.in_place_host.proofs.opened_by as moved
-use Rattle.in_place_host.proofs.opened_by.Symbol as moved-def
-use Rattle.in_place_host.proofs.opened_by.Symbol.{name as #opened-by}
-use Rattle.in_place_host.proofs.opened_by.Met as moved-thm
-use Rattle.in_place_host.proofs.wiqhano_stepper_attempt_in_place.Key.{name as #in-place-host·wiqhano-stepper-attempt-in-place}
-use Rattle.in_place_host.proofs.wiqhano_stepper_attempt_in_place as place
-use Rattle.in_place_host.proofs.wiqhano_stepper_attempt_in_place.Statement as stated
-use Rattle.in_place_host.proofs.wiqhano_stepper_attempt_in_place.Code as code
-use Rattle.in_place_host.proofs.wiqhano_stepper_attempt_in_place.Code.Mir as body
+use Rattle.attempt_host.proofs.opened_by as moved
+use Rattle.attempt_host.proofs.opened_by.Symbol as moved-def
+use Rattle.attempt_host.proofs.opened_by.Symbol.{name as #opened-by}
+use Rattle.attempt_host.proofs.opened_by.Met as moved-thm
+use Rattle.attempt_host.proofs.wiqhano_stepper_attempt_in_place.Key.{name as #attempt-host·wiqhano-stepper-attempt-in-place}
+use Rattle.attempt_host.proofs.wiqhano_stepper_attempt_in_place as place
+use Rattle.attempt_host.proofs.wiqhano_stepper_attempt_in_place.Statement as stated
+use Rattle.attempt_host.proofs.wiqhano_stepper_attempt_in_place.Code as code
+use Rattle.attempt_host.proofs.wiqhano_stepper_attempt_in_place.Code.Mir as body
 
 abbrev stayed : Stays (place.ended .signature .params) (place.ended .kept)
 stayed = (stay-ref (0 ∷ []) tt (plain (λ _. T.the-row)), (stay-none-slice (1 ∷ []) tt (plain (λ _. u8)) yes, (stay-none (λ _. f64) yes, (stay-none (λ _. bool) yes, (stay-none (λ _. bool) yes, (stay-none-slice (2 ∷ []) tt (plain (λ _. f64)) yes, (gave-slice (3 ∷ []) tt (plain (λ _. f64)), (gave-slice (4 ∷ []) tt (plain (λ _. usize)), tt))))))))
@@ -331,8 +331,8 @@ pub wiqhano-stepper-attempt-in-place-spec : {M : Type 1} → stated.statement M
 unfolding code.routine tablesOf
 wiqhano-stepper-attempt-in-place-spec 𝓤 H 𝓜 𝓖 𝓡 =
     entered 𝓤 H (tripleOf 𝓤 H (𝓖 .A) place.signature (place.spec 𝓤 H (𝓖 .A) (𝓜 .mem) (𝓡 .run)))
-    (tables 𝓤 H 𝓜 𝓡 code.env .C) (tables 𝓤 H 𝓜 𝓡 code.env .Λ) #in-place-host·wiqhano-stepper-attempt-in-place code.function (code.unfolded 𝓤 H 𝓜 𝓡)
+    (tables 𝓤 H 𝓜 𝓡 code.env .C) (tables 𝓤 H 𝓜 𝓡 code.env .Λ) #attempt-host·wiqhano-stepper-attempt-in-place code.function (code.unfolded 𝓤 H 𝓜 𝓡)
     (meets 𝓤 H (𝓖 .A) (givenOf 𝓤 H 𝓜 𝓖) (𝓜 .mem) (𝓡 .run) (tablesOf 𝓤 H 𝓜 (tables 𝓤 H 𝓜 𝓡 code.env))
     (cited 𝓤 H (Coded 𝓤 H (𝓖 .A) (𝓜 .mem) (𝓡 .run)) 𝓜 𝓡 code.env #attempted coded-def.routine code.calls-rosenbrock·RosenbrockStepper·attempted (coded-thm.met 𝓤 H 𝓜 𝓖 𝓡))
     (cited 𝓤 H (Number 𝓤 H (𝓖 .A) (𝓜 .mem) (𝓡 .run)) 𝓜 𝓡 code.env #refused-by number-def.routine code.calls-rosenbrock·refused-by (number-thm.met 𝓤 H 𝓜 𝓖 𝓡))
-    (cited 𝓤 H (Moved 𝓤 H (𝓖 .A) (𝓜 .mem) (𝓡 .run)) 𝓜 𝓡 code.env #opened-by moved-def.routine code.calls-in-place-host·opened-by (moved-thm.met 𝓤 H 𝓜 𝓖 𝓡)))
+    (cited 𝓤 H (Moved 𝓤 H (𝓖 .A) (𝓜 .mem) (𝓡 .run)) 𝓜 𝓡 code.env #opened-by moved-def.routine code.calls-attempt-host·opened-by (moved-thm.met 𝓤 H 𝓜 𝓖 𝓡)))

@@ -1,8 +1,8 @@
--- `in_place_host::opened_by` meets its contract. Assumes nothing.
+-- `attempt_host::opened_by` meets its contract. Assumes nothing.
 use mathlib.Core.Path.{ap, _∙_}
 use Rattle.in_place_host.specs.Handed.{inNumbers}
-use Rattle.in_place_host.proofs.opened_by.Statement.{statement}
-use Rattle.in_place_host.proofs.opened_by.Tie as tie
+use Rattle.attempt_host.proofs.opened_by.Statement.{statement}
+use Rattle.attempt_host.proofs.opened_by.Tie as tie
 
 replied-attempt-requires : tie.Need-replied-attempt-requires
 replied-attempt-requires c κs = tt
