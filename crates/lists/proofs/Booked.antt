@@ -22,7 +22,8 @@ use Rattle.refusals.specs.declared.Fixed.{Fixed}
 use Rattle.refusals.specs.declared.Progress.{Progress}
 use Rattle.refusals.specs.Requests.{isPending, isOpen, requestAfter}
 use Rattle.refusals.specs.Answers.{Lent, candidateOf, viewOf, answerOf}
-use Rattle.rosenbrock.specs.Calls.{Out, refusal, guarded, progressAfter, settle, opening, opened, attemptBy, attemptOf, towards, attemptToOf, supplyOf, failed, failOf, accepted, acceptOf, rejected, rejectOf, injected, injectOf, fresh, cleared, restarted, resetOf}
+use Rattle.rosenbrock.specs.Calls.{Out, refusal, guarded, progressAfter, settle, opened, attemptBy, attemptOf, towards, attemptToOf, supplyOf, failed, failOf, accepted, acceptOf, rejected, rejectOf, injected, injectOf, cleared, restarted, resetOf}
+use Rattle.phases.specs.Phases.{opening, fresh}
 use Rattle.rosenbrock.specs.Readers.{Query, answered, readOf}
 use Rattle.rosenbrock.specs.Stepper.{Form, Call, attempt, attempt-to, supply, fail, accept, reject, inject-derivative, reset, read, called, System, needed, trimmed, result, stepped}
 use Rattle.refusals.proofs.Requests.{asked-not-pending}

@@ -5,7 +5,8 @@ use Prim.Native.Nat.{ℕ}
 use lib.Ieee.{Float}
 use Rattle.time_difference.specs.declared.TimeDifferencePolicy.{TimeDifferencePolicy}
 use Rattle.refusals.specs.Answers.{Lent}
-use Rattle.rosenbrock.specs.Calls.{fresh, cleared}
+use Rattle.rosenbrock.specs.Calls.{cleared}
+use Rattle.phases.specs.Phases.{fresh}
 use Rattle.rosenbrock.specs.Stepper.{System, trimmed, untrimmed, madeOf}
 use Rattle.rosenbrock.proofs.Memory.{tail-after, work-after, pivots-after}
 use Rattle.rosenbrock.proofs.Readers.{read-unchanged}

@@ -22,7 +22,8 @@ use Rattle.refusals.specs.declared.Progress.{Progress}
 use Rattle.refusals.specs.Requests.{isPending, isOpen}
 use Rattle.refusals.specs.Answers.{Lent, refused, done}
 use Rattle.refusals.specs.Tests.{shapeFits, fitTests, fileTests, attemptTests, stepTests, supplyTests, failTests, decisionTests, injectTests, resetTests}
-use Rattle.rosenbrock.specs.Calls.{Out, refusal, guarded, progressAfter, opening, attemptBy, attemptOf, towards, attemptToOf, supplyOf, failed, failOf, memoAccepted, accepted, acceptOf, rejected, rejectOf, injected, injectOf, fresh, cleared, restarted, resetOf}
+use Rattle.rosenbrock.specs.Calls.{Out, refusal, guarded, progressAfter, attemptBy, attemptOf, towards, attemptToOf, supplyOf, failed, failOf, accepted, acceptOf, rejected, rejectOf, injected, injectOf, cleared, restarted, resetOf}
+use Rattle.phases.specs.Phases.{opening, memoAccepted, fresh}
 use Rattle.rosenbrock.specs.Stepper.{trimmed, needed, fixedBy, not-made, make, madeOf}
 use Rattle.rosenbrock.proofs.Guards.{guarded-passed, done-passed}
 use Rattle.refusals.proofs.Tested.{after-file}

@@ -15,7 +15,8 @@ use Rattle.attempts.proofs.Requests.{InRange, start-fits, resume-fits}
 use Rattle.refusals.specs.declared.Fixed.{Fixed}
 use Rattle.refusals.specs.declared.Progress.{Progress}
 use Rattle.refusals.specs.Answers.{Lent}
-use Rattle.rosenbrock.specs.Calls.{Out, refusal, guarded, givenBy, progressAfter, settle, opening, opened, attemptBy, attemptOf, towards, attemptToOf, supplyOf, failed, failOf, accepted, acceptOf, rejected, rejectOf, injected, injectOf, fresh, cleared, restarted, resetOf}
+use Rattle.rosenbrock.specs.Calls.{Out, refusal, guarded, givenBy, progressAfter, settle, opened, attemptBy, attemptOf, towards, attemptToOf, supplyOf, failed, failOf, accepted, acceptOf, rejected, rejectOf, injected, injectOf, cleared, restarted, resetOf}
+use Rattle.phases.specs.Phases.{opening, fresh}
 use Rattle.rosenbrock.specs.Readers.{answered, readOf}
 use Rattle.rosenbrock.specs.Stepper.{Call, attempt, attempt-to, supply, fail, accept, reject, inject-derivative, reset, read, called, System, needed, trimmed, result, stepped, made, fixedBy, madeOf, make}
 use Rattle.refusals.proofs.Requests.{nothing-fits, fits-after, in-range}

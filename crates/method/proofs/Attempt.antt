@@ -25,7 +25,8 @@ use Rattle.refusals.specs.Requests.{requestAfter, stageAfter}
 use Rattle.refusals.specs.Answers.{Lent, Request, derivative, asked, shown, candidateOf, errorShown, shownPart, stagesShown, rhsStagesShown, jacobianShown, timePartialShown, viewOf}
 use Rattle.refusals.specs.Answers as answers
 use Rattle.refusals.specs.Tests.{attemptTests, stepTests, decisionTests}
-use Rattle.rosenbrock.specs.Calls.{Out, refusal, guarded, givenBy, scratchBy, progressAfter, settle, opening, opened, attemptBy, attemptOf, rejected, rejectOf}
+use Rattle.rosenbrock.specs.Calls.{Out, refusal, guarded, givenBy, scratchBy, progressAfter, settle, opened, attemptBy, attemptOf, rejected, rejectOf}
+use Rattle.phases.specs.Phases.{opening}
 use Rattle.refusals.proofs.Fitting.{LentShape, fits-passed}
 use Rattle.method.specs.Step as method
 use Rattle.method.specs.Step.{Problem, Attempted, Evaluated, Differentiation, Cache, cached, nothing, Caches, orElse, evaluated, derivativeAt, differentiationAt, partialAt}

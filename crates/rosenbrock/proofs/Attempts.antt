@@ -39,10 +39,11 @@ use Rattle.rosenbrock.specs.declared.Reply.the-variants as reply
 use Rattle.refusals.specs.Requests.{askOf, askNumber, askStage, requestAfter, stageAfter}
 use Rattle.refusals.specs.Answers.{Lent, lending, asked, requestOf, answerOf}
 use Rattle.refusals.specs.Tests.{attemptTests, stepTests, supplyTests, fileTests, openTest, requestTest, pivotsUnfit, answerTests, lentTests}
-use Rattle.rosenbrock.specs.Calls.{givenBy, scratchBy, progressAfter, settle, opening, opened, attemptBy, attemptOf, towards, attemptToOf, supplyOf, settingBy}
+use Rattle.rosenbrock.specs.Calls.{givenBy, scratchBy, progressAfter, settle, opened, attemptBy, attemptOf, towards, attemptToOf, supplyOf}
+use Rattle.phases.specs.Phases.{opening, settingBy}
 use Rattle.statistics.specs.Counters.{tallied}
 use Rattle.rosenbrock.specs.Stepper.{attempt, attempt-to, supply, called, needed, trimmed, untrimmed, Next, result, stepped, nextBy}
-use Rattle.rosenbrock.specs.Contracts.{systemOf, answerBy, nextOf, marksBy, answerAfter, outcomeAfter, replied, repliedAttempt}
+use Rattle.rosenbrock.specs.Contracts.{systemOf, answerBy, nextOf, answerAfter, outcomeAfter, replied, repliedAttempt}
 use Rattle.refusals.proofs.Requests.{read-back, in-range}
 use Rattle.refusals.proofs.Fitting.{Shape, fits-passed}
 use Rattle.refusals.proofs.Passed.{supply-passed, supply-values}
@@ -133,7 +134,7 @@ module _ (y : RosenbrockStepper) (state work : List Float) (pivots : List ℕ) w
           → need ≡ neededWork (y .fixed .n) (y .fixed .s) → x ≡ opening step jacobian partial (y .progress) → g ≡ settingBy (y .fixed) x
           → ((c : Counted) → movedStop moved (scratch (marked (x .memo) c) w p) ≡ start (given g (tableauOf file) state) (scratch (marked (x .memo) c) (take need work) pivots))
           → nextOf (repliedAttempt y step jacobian partial (reply.Moved moved)) state (w ++ drop need work) p ≡ nextBy y m (attemptBy (y .fixed) file step jacobian partial (y .progress) cut-m)
-      unfolding attemptBy opened givenBy scratchBy marksBy trimmed needed settle repliedAttempt
+      unfolding attemptBy opened givenBy scratchBy trimmed needed settle repliedAttempt
       step-opened z {x} moved w p a b c f =
           let fx = y .fixed in
           let X = opening step jacobian partial (y .progress) in
@@ -235,7 +236,7 @@ module _ (y : RosenbrockStepper) (state work : List Float) (pivots : List ℕ) w
           → ((c : Counted) → movedStop moved (scratch (marked (y .progress .memo) c) w p)
           ≡ resume (given g (tableauOf file) state) a values (scratch (marked (y .progress .memo) c) (take need work) pivots))
           → nextOf (replied y (reply.Moved moved)) state (w ++ drop need work) p ≡ stepped (supply file values) (systemOf y state work pivots)
-      unfolding result called supplyOf givenBy scratchBy marksBy trimmed needed settle replied
+      unfolding result called supplyOf givenBy scratchBy trimmed needed settle replied
       supply-done moved w p a b d f =
           let fx = y .fixed in
           let x = y .progress in

@@ -17,7 +17,8 @@ use Rattle.attempts.proofs.Lengths.{Long, StoppedLong, start-keeps, resume-keep
 use Rattle.refusals.specs.declared.Fixed.{Fixed}
 use Rattle.refusals.specs.declared.Progress.{Progress}
 use Rattle.refusals.specs.Answers.{Lent}
-use Rattle.rosenbrock.specs.Calls.{Out, refusal, guarded, givenBy, scratchBy, settle, opening, opened, attemptBy, attemptOf, towards, attemptToOf, supplyOf, failed, failOf, accepted, acceptOf, rejected, rejectOf, injected, injectOf, cleared, restarted, resetOf}
+use Rattle.rosenbrock.specs.Calls.{Out, refusal, guarded, givenBy, scratchBy, settle, opened, attemptBy, attemptOf, towards, attemptToOf, supplyOf, failed, failOf, accepted, acceptOf, rejected, rejectOf, injected, injectOf, cleared, restarted, resetOf}
+use Rattle.phases.specs.Phases.{opening}
 use Rattle.rosenbrock.specs.Readers.{Query, answered, readOf}
 use Rattle.rosenbrock.specs.Stepper.{Call, attempt, attempt-to, supply, fail, accept, reject, inject-derivative, reset, read, called}
 use Rattle.rosenbrock.proofs.Guards.{guarded-either}

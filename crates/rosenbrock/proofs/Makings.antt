@@ -18,7 +18,8 @@ use Rattle.statistics.specs.declared.StepStatistics.{StepStatistics}
 use Rattle.rosenbrock.specs.declared.Making.the-variants.{Made, Refused}
 use Rattle.refusals.specs.Answers.{Lent, lending}
 use Rattle.refusals.specs.Tests.{shapeFits, finiteTest, makingTests, lentNewTests}
-use Rattle.rosenbrock.specs.Calls.{fresh, cleared}
+use Rattle.rosenbrock.specs.Calls.{cleared}
+use Rattle.phases.specs.Phases.{fresh}
 use Rattle.rosenbrock.specs.Stepper as Stepper
 use Rattle.statistics.specs.Counters.{noStatistics}
 use Rattle.rosenbrock.specs.Stepper.{needed, trimmed, untrimmed, not-made, fixedBy, madeOf, make}

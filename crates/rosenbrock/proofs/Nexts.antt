@@ -26,7 +26,8 @@ use Rattle.rosenbrock.specs.declared.Outcome.{Outcome}
 use Rattle.refusals.specs.Answers.{Lent, lending, refused, candidateOf}
 use Rattle.refusals.specs.Answers as Answers
 use Rattle.refusals.specs.Tests.{decisionTests, failTests, injectTests, resetTests, openTest, pendingTest, candidateTest, requestTest, lengthTest, finiteTest, lentTests}
-use Rattle.rosenbrock.specs.Calls.{Out, refusal, guarded, progressAfter, memoAccepted, accepted, acceptOf, rejected, rejectOf, failed, failOf, injected, injectOf, fresh, cleared, restarted, resetOf}
+use Rattle.rosenbrock.specs.Calls.{Out, refusal, guarded, progressAfter, accepted, acceptOf, rejected, rejectOf, failed, failOf, injected, injectOf, cleared, restarted, resetOf}
+use Rattle.phases.specs.Phases.{memoAccepted, fresh}
 use Rattle.statistics.specs.Counters.{oneMore, tallied}
 use Rattle.rosenbrock.specs.Stepper.{Call, by-value, accept, reject, fail, inject-derivative, reset, called, needed, trimmed, untrimmed, result, stepped, nextBy}
 use Rattle.rosenbrock.specs.Contracts.{systemOf, answerBy, nextOf}

@@ -1,11 +1,11 @@
 -- Each call on the record and the needed memory (the scope paper, From the entry: attempt_to). No call reads a counter: it hands back what is to be
 -- counted. Definitions only.
 use Prim.Native.Nat.{ℕ}
-use mathlib.Core.Bool.{Bool, true, false, _&&_}
+use mathlib.Core.Bool.{Bool, true, false}
 use mathlib.Core.List.{List}
 use lib.ListN.{length, replicate}
-use lib.Ieee.{Float, eq}
-use Rattle.float.specs.Operators.{_⊕_, _⊖_, 𝟎}
+use lib.Ieee.{Float}
+use Rattle.float.specs.Operators.{_⊕_, 𝟎}
 use Rattle.vector.specs.Lists.{el}
 use Rattle.vector.specs.Parts.{puts}
 use Rattle.stepping.specs.Refusals.{hostFailure, Test, firstOf, unlessRefused}
@@ -14,15 +14,15 @@ use Rattle.stepping.specs.declared.Endpoint.the-variants.{Step, Refused}
 use Rattle.stepping.specs.Time.{endpointStep}
 use Rattle.tableau.specs.File.{tableauOf}
 use Rattle.stages.specs.Layout.{currentAt}
-use Rattle.attempts.specs.declared.Setting.{Setting}
 use Rattle.attempts.specs.declared.Memo.{Memo}
 use Rattle.attempts.specs.declared.Counted.{Counted}
-use Rattle.attempts.specs.Marks.{blank, withCaches, nothingCounted, oneAttempt, oneAccepted, oneRejected}
+use Rattle.attempts.specs.Marks.{withCaches, nothingCounted, oneAttempt, oneAccepted, oneRejected}
 use Rattle.attempts.specs.Attempt.{Given, given, Scratch, scratch, Stopped, start, resume}
 use Rattle.refusals.specs.declared.Fixed.{Fixed}
 use Rattle.refusals.specs.declared.Progress.{Progress}
 use Rattle.refusals.specs.Requests.{askOf, requestAfter, stageAfter}
 use Rattle.refusals.specs.Answers.{Lent, lending, Answer, refused, done, candidateOf, answerOf}
+use Rattle.phases.specs.Phases.{settingBy, opening, memoAccepted, fresh}
 use Rattle.refusals.specs.Tests.{attemptTests, stepTests, supplyTests, failTests, decisionTests, injectTests, resetTests}
 
 -- what a call leaves
@@ -42,20 +42,7 @@ guarded tests x m o = unlessRefused (refusal x m) (firstOf tests) o
 
 -- ---- an open attempt
 
--- what it reads of the record
-abbrev pub settingBy : Fixed → Progress → Setting
-settingBy fx x =
-    record {
-      n = fx .n;
-      s = fx .s;
-      policy = fx .policy;
-      time = x .time;
-      step = x .step;
-      «host_jacobian» = x .«host_jacobian»;
-      «host_time_partial» = x .«host_time_partial»;
-    }
-
--- and of the rest
+-- what it reads
 unfoldable pub givenBy : Fixed → List ℕ → Progress → Lent → Given
 givenBy fx file x m = given (settingBy fx x) (tableauOf file) (m .state)
 
@@ -86,21 +73,6 @@ settle fx x m r =
     record { progress = x′; lent = m′; counted = marks .counted; answer = answerOf fx x′ m′ ending }
 
 -- ---- attempt, attempt_to
-
--- The record as an attempt opens: the end is the time plus the step, rounded once, and the effective step is the end minus the time.
-unfoldable pub opening : Float → Bool → Bool → Progress → Progress
-opening step jacobian partial x =
-    let end = x .time ⊕ step in
-    record {
-      time = x .time;
-      step = end ⊖ x .time;
-      end = end;
-      «host_jacobian» = jacobian;
-      «host_time_partial» = partial;
-      request = 0;
-      stage = 0;
-      memo = x .memo;
-    }
 
 unfoldable pub opened : Fixed → List ℕ → Progress → Lent → Out
 opened fx file x m = settle fx x m (start (givenBy fx file x m) (scratchBy oneAttempt x m))
@@ -136,12 +108,6 @@ unfoldable pub failOf : Fixed → Progress → Lent → Out
 failOf fx x m = guarded (failTests fx x m) x m (failed x m)
 
 -- ---- accept, reject
-
--- the caches' validity after an accept: a step other than 0 clears both
-unfoldable pub memoAccepted : Progress → Memo
-memoAccepted x =
-    let same = eq (x .step) 𝟎 in
-    withCaches (same && x .memo .«derivative_valid») (same && x .memo .«differentiation_valid») (x .memo)
 
 unfoldable pub accepted : Fixed → Progress → Lent → Out
 accepted fx x m =
@@ -185,20 +151,6 @@ injected fx derivative x m =
 
 unfoldable pub injectOf : Fixed → List Float → Progress → Lent → Out
 injectOf fx derivative x m = guarded (injectTests fx derivative x m) x m (injected fx derivative x m)
-
--- what a making sets, and a reset again
-unfoldable pub fresh : Float → Progress
-fresh time =
-    record {
-      time = time;
-      step = 𝟎;
-      end = 𝟎;
-      «host_jacobian» = false;
-      «host_time_partial» = false;
-      request = 0;
-      stage = 0;
-      memo = blank;
-    }
 
 unfoldable pub cleared : List Float → Lent → Lent
 cleared state m = lending state (replicate (length (m .work)) 𝟎) (replicate (length (m .pivots)) 0)

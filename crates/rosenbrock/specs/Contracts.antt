@@ -1,16 +1,15 @@
 -- What the code hands back, in the terms of the definitions: record and lent memory as a system, and the answer with what it asks or shows.
 -- Definitions only.
 use Prim.Native.Nat.{ℕ}
-use mathlib.Core.Bool.{Bool, true, false}
+use mathlib.Core.Bool.{Bool}
 use mathlib.Core.List.{List}
 use lib.Ieee.{Float}
 use Rattle.time_difference.specs.declared.TimeDifferencePolicy.{TimeDifferencePolicy}
-use Rattle.attempts.specs.declared.Memo.{Memo}
-use Rattle.attempts.specs.declared.Marks.{Marks}
 use Rattle.attempts.specs.declared.Ending.{Ending}
 use Rattle.attempts.specs.declared.Ending.the-variants.{Asks, Ends, Shows}
 use Rattle.attempts.specs.declared.Stop.{Stop}
-use Rattle.attempts.specs.Calls.{stopBy}
+use Rattle.attempts.specs.Marks.{nothingCounted, oneAttempt}
+use Rattle.attempts.specs.Calls.{stopBy, marked}
 use Rattle.refusals.specs.declared.Fixed.{Fixed}
 use Rattle.refusals.specs.declared.Progress.{Progress}
 use Rattle.statistics.specs.declared.StepStatistics.{StepStatistics}
@@ -24,7 +23,8 @@ use Rattle.rosenbrock.specs.declared.Making.{Making}
 use Rattle.rosenbrock.specs.declared.Making.the-variants as making
 use Rattle.refusals.specs.Requests.{askOf, requestAfter, stageAfter}
 use Rattle.refusals.specs.Answers.{Lent, lending, Answer, refused, asked, shown, done, requestOf, viewOf}
-use Rattle.rosenbrock.specs.Calls.{progressAfter, opening}
+use Rattle.phases.specs.Phases.{opening}
+use Rattle.rosenbrock.specs.Calls.{progressAfter}
 use Rattle.statistics.specs.Counters.{tallied}
 use Rattle.rosenbrock.specs.Stepper.{System, needed, trimmed, Next, Made, not-made, made, make}
 
@@ -69,23 +69,6 @@ madeBy (making.Refused k) state work pivots = afterMaking (not-made k) (lending 
 
 -- ---- parts of the calls, as the code has them
 
--- its marks as a call hands them over; an attempt counts itself
-unfoldable pub marksBy : Memo → Bool → Marks
-marksBy memo attempt =
-    record {
-      memo = memo;
-      counted =
-          record {
-            attempts = attempt;
-            «rhs_evaluations» = false;
-            «accepted_steps» = false;
-            «rejected_steps» = false;
-            «jacobian_evaluations» = false;
-            factorizations = false;
-            «linear_solves» = false;
-          };
-    }
-
 -- what is answered where it stopped, and the record there
 unfoldable pub answerAfter : Ending → code.Answer
 answerAfter (Asks a) = Asked
@@ -108,14 +91,14 @@ outcomeAfter fx x t r =
 -- what a reply makes of the record that it was given for: a refusal leaves it, and what the attempt moved is set in it
 unfoldable pub replied : RosenbrockStepper → Reply → Outcome
 replied y (reply.Refused k) = record { stepper = y; answer = Refused k }
-replied y (reply.Moved r) = outcomeAfter (y .fixed) (y .progress) (y .statistics) (stopBy r (marksBy (y .progress .memo) false))
+replied y (reply.Moved r) = outcomeAfter (y .fixed) (y .progress) (y .statistics) (stopBy r (marked (y .progress .memo) nothingCounted))
 
 -- the same for an attempt, which opens the record first
 unfoldable pub repliedAttempt : RosenbrockStepper → Float → Bool → Bool → Reply → Outcome
 repliedAttempt y step jacobian partial (reply.Refused k) = record { stepper = y; answer = Refused k }
 repliedAttempt y step jacobian partial (reply.Moved r) =
     let x = opening step jacobian partial (y .progress) in
-    outcomeAfter (y .fixed) x (y .statistics) (stopBy r (marksBy (x .memo) true))
+    outcomeAfter (y .fixed) x (y .statistics) (stopBy r (marked (x .memo) oneAttempt))
 
 -- the number of a refusal that leaves the record
 unfoldable pub refusedBy : Reply → ℕ

@@ -15,7 +15,8 @@ use Rattle.statistics.specs.Counters.{tallied, noStatistics}
 use Rattle.rosenbrock.specs.declared.RosenbrockStepper.{RosenbrockStepper}
 use Rattle.refusals.specs.Answers.{Lent, lending, Answer}
 use Rattle.refusals.specs.Tests.{makingTests}
-use Rattle.rosenbrock.specs.Calls.{Out, attemptOf, attemptToOf, supplyOf, failOf, acceptOf, rejectOf, injectOf, resetOf, fresh, cleared}
+use Rattle.rosenbrock.specs.Calls.{Out, attemptOf, attemptToOf, supplyOf, failOf, acceptOf, rejectOf, injectOf, resetOf, cleared}
+use Rattle.phases.specs.Phases.{fresh}
 use Rattle.rosenbrock.specs.Readers.{Query, readOf}
 
 -- ---- the calls

@@ -4,18 +4,13 @@ ghost use mathlib.Core.Bool.{true};
 ghost use Prim.Native.Nat.{min, _*_};
 ghost use lib.ListN.{length};
 ghost use Rattle.stages.specs.Layout.{neededWork};
-ghost use Rattle.attempts.specs.Calls.{stopBy};
 ghost use Rattle.refusals.specs.Tests.{shapeFits};
 ghost use Rattle.refusals.specs.Answers.{lending};
-ghost use Rattle.rosenbrock.specs.Calls.{settingBy, memoAccepted, fresh, opening, attemptBy};
+ghost use Rattle.rosenbrock.specs.Calls.{attemptBy};
 ghost use Rattle.rosenbrock.specs.Stepper.{needed, trimmed, by-value, attempt, attempt-to, supply, fail, accept, reject, inject-derivative, reset, nextBy, stepped};
-ghost use Rattle.rosenbrock.specs.Contracts.{marksBy, answerAfter, outcomeAfter, systemOf, nextOf, replied, repliedAttempt, refusedBy, madeBy, makingOf};
-use attempts::Counted;
+ghost use Rattle.rosenbrock.specs.Contracts.{answerAfter, outcomeAfter, systemOf, nextOf, replied, repliedAttempt, refusedBy, madeBy, makingOf};
 use attempts::Ending;
-use attempts::Marks;
-use attempts::Memo;
 use attempts::Moved;
-use attempts::Setting;
 use attempts::Stop;
 use refusals::Fixed;
 use refusals::Progress;
@@ -69,100 +64,6 @@ fn answer_after(ending: Ending) -> Answer
 }
 
 // ---- the record
-
-// A step other than 0 clears both caches.
-fn memo_accepted(progress: Progress) -> Memo
-    ensures { λ r. ⌜ r ≡ memoAccepted progress ⌝ }
-{
-    let mut memo = progress.memo;
-    let step = progress.step;
-    if step == 0.0 {
-        return memo;
-    }
-    memo.derivative_valid = false;
-    memo.differentiation_valid = false;
-    memo
-}
-
-// What a making sets, and a reset again.
-fn fresh(time: f64) -> Progress
-    ensures { λ r. ⌜ r ≡ fresh time ⌝ }
-{
-    let memo = Memo {
-        derivative_valid: false,
-        differentiation_valid: false,
-        error_shown: false,
-        two_probes: false,
-        first_probe: 0.0,
-        second_probe: 0.0,
-        request_time: 0.0,
-    };
-    Progress {
-        time,
-        step: 0.0,
-        end: 0.0,
-        host_jacobian: false,
-        host_time_partial: false,
-        request: 0,
-        stage: 0,
-        memo,
-    }
-}
-
-// The record as an attempt opens: the end is the time plus the step, rounded once, and the
-// effective step is the end minus the time.
-fn opening(progress: Progress, step: f64, host_jacobian: bool, host_time_partial: bool) -> Progress
-    ensures { λ r. ⌜ r ≡ opening step «host_jacobian» «host_time_partial» progress ⌝ }
-{
-    let end = progress.time + step;
-    let mut open = progress;
-    open.step = end - progress.time;
-    open.end = end;
-    open.host_jacobian = host_jacobian;
-    open.host_time_partial = host_time_partial;
-    open.request = 0;
-    open.stage = 0;
-    open
-}
-
-// What an open attempt reads of the record.
-fn setting_of(fixed: Fixed, progress: Progress) -> Setting
-    ensures { λ r. ⌜ r ≡ settingBy fixed progress ⌝ }
-{
-    let policy = fixed.policy;
-    Setting {
-        n: fixed.n,
-        s: fixed.s,
-        policy,
-        time: progress.time,
-        step: progress.step,
-        host_jacobian: progress.host_jacobian,
-        host_time_partial: progress.host_time_partial,
-    }
-}
-
-fn marks_of(memo: Memo, attempts: bool) -> Marks
-    ensures { λ r. ⌜ r ≡ marksBy memo attempts ⌝ }
-{
-    let counted = Counted {
-        attempts,
-        rhs_evaluations: false,
-        accepted_steps: false,
-        rejected_steps: false,
-        jacobian_evaluations: false,
-        factorizations: false,
-        linear_solves: false,
-    };
-    Marks { memo, counted }
-}
-
-// How an open attempt stops, by what it moved; an attempt counts itself.
-fn stop_of(memo: Memo, attempt: bool, moved: Moved) -> Stop
-    ensures { λ r. ⌜ r ≡ stopBy moved (marksBy memo attempt) ⌝ }
-{
-    let marks = marks_of(memo, attempt);
-    attempts::stop_by(marks, moved)
-}
 
 // The record where an open attempt stopped, and the answer.
 fn settled(fixed: Fixed, progress: Progress, statistics: StepStatistics, stop: Stop) -> Outcome
@@ -228,7 +129,7 @@ impl RosenbrockStepper {
         vector::fill(&mut work[..need], 0.0);
         vector::zero(pivots);
         let fixed = Fixed { n, s, policy };
-        let progress = fresh(time);
+        let progress = phases::fresh(time);
         let statistics = statistics::no_statistics();
         let stepper = RosenbrockStepper {
             fixed,
@@ -263,8 +164,8 @@ impl RosenbrockStepper {
             return Reply::Refused(number);
         }
         let need = refusals::needed_work(n, s);
-        let progress = opening(before, step, host_jacobian, host_time_partial);
-        let setting = setting_of(fixed, progress);
+        let progress = phases::opening(before, step, host_jacobian, host_time_partial);
+        let setting = phases::setting_of(fixed, progress);
         let memo = progress.memo;
         let moved = evaluations::start(setting, file, state, &mut work[..need], pivots, memo);
         Reply::Moved(moved)
@@ -327,9 +228,9 @@ impl RosenbrockStepper {
                 answer: Answer::Refused(number),
             },
             Reply::Moved(moved) => {
-                let progress = opening(before, step, host_jacobian, host_time_partial);
+                let progress = phases::opening(before, step, host_jacobian, host_time_partial);
                 let memo = progress.memo;
-                let stop = stop_of(memo, true, moved);
+                let stop = phases::stop_of(memo, true, moved);
                 settled(fixed, progress, statistics, stop)
             },
         }
@@ -445,7 +346,7 @@ impl RosenbrockStepper {
             return Reply::Refused(number);
         }
         let need = refusals::needed_work(n, s);
-        let setting = setting_of(fixed, progress);
+        let setting = phases::setting_of(fixed, progress);
         let ask = refusals::ask_of(request, stage);
         let moved = evaluations::resume(
             setting,
@@ -474,7 +375,7 @@ impl RosenbrockStepper {
                 answer: Answer::Refused(number),
             },
             Reply::Moved(moved) => {
-                let stop = stop_of(memo, false, moved);
+                let stop = phases::stop_of(memo, false, moved);
                 settled(fixed, progress, statistics, stop)
             },
         }
@@ -517,7 +418,7 @@ impl RosenbrockStepper {
                 answer: Answer::Refused(number),
             };
         }
-        let memo = memo_accepted(progress);
+        let memo = phases::memo_accepted(progress);
         vector::copy(state, &work[..n]);
         progress.time = progress.time + progress.step;
         progress.request = 0;
@@ -674,7 +575,7 @@ impl RosenbrockStepper {
             };
         }
         let need = refusals::needed_work(n, s);
-        let progress = fresh(time);
+        let progress = phases::fresh(time);
         vector::copy(state, values);
         vector::fill(&mut work[..need], 0.0);
         vector::zero(pivots);

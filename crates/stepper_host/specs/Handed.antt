@@ -5,7 +5,7 @@ use Rattle.rosenbrock.specs.declared.RosenbrockStepper.{RosenbrockStepper}
 use Rattle.rosenbrock.specs.declared.Answer as code
 use Rattle.rosenbrock.specs.declared.Outcome.{Outcome}
 use Rattle.refusals.specs.Answers.{Lent}
-use Rattle.rosenbrock.specs.Calls.{fresh}
+use Rattle.phases.specs.Phases.{fresh}
 use Rattle.statistics.specs.Counters.{noStatistics}
 use Rattle.rosenbrock.specs.Stepper.{Next, Made, not-made, made}
 use Rattle.rosenbrock.specs.Contracts.{AfterMaking}

@@ -18,7 +18,8 @@ use Rattle.refusals.specs.declared.Progress.{Progress}
 use Rattle.rosenbrock.specs.declared.RosenbrockStepper.{RosenbrockStepper}
 use Rattle.refusals.specs.Answers.{Lent, Answer, refused, asked, shown, told, done}
 use Rattle.refusals.specs.Tests.{attemptTests, stepTests, fileTests, openTest}
-use Rattle.rosenbrock.specs.Calls.{Out, refusal, opening, opened, attemptBy, attemptOf, accepted, acceptOf}
+use Rattle.rosenbrock.specs.Calls.{Out, refusal, opened, attemptBy, attemptOf, accepted, acceptOf}
+use Rattle.phases.specs.Phases.{opening}
 use Rattle.rosenbrock.specs.Stepper.{attempt, accept, by-value, called, System, Next, needed, trimmed, result, stepped}
 use Rattle.rosenbrock.proofs.Guards.{guarded-either, guarded-passed}
 use Rattle.refusals.proofs.Fitting.{Fits, fits-passed}

@@ -26,6 +26,7 @@ use Rattle.attempts.specs.Attempt as attempt
 use Rattle.refusals.specs.Requests as requests
 use Rattle.refusals.specs.Answers as answers
 use Rattle.refusals.specs.Tests as tests
+use Rattle.phases.specs.Phases as phases
 use Rattle.rosenbrock.specs.Calls as call
 use Rattle.statistics.specs.Counters as counters
 use Rattle.rosenbrock.specs.Stepper as stepper
@@ -68,7 +69,7 @@ attempts = tt
 
 -- the calls, and lists of them
 unfoldable pub calls : Unit {0}
-unfolding requests.isPending requests.isOpen requests.askOf requests.askNumber requests.askStage requests.requestAfter requests.stageAfter requests.requestFits answers.kindOf answers.stateAsked answers.requestOf answers.candidateOf answers.errorShown answers.shownPart answers.stagesShown answers.rhsStagesShown answers.jacobianShown answers.timePartialShown answers.viewOf answers.answerOf tests.shapeFits tests.pivotsUnfit call.refusal call.guarded call.givenBy call.scratchBy call.progressAfter call.settle call.opening call.opened call.attemptBy call.attemptOf call.towards call.attemptToOf call.supplyOf call.failed call.failOf call.memoAccepted call.accepted call.acceptOf call.rejected call.rejectOf call.injected call.injectOf call.fresh call.cleared call.restarted call.resetOf stepper.called counters.oneMore counters.tallied stepper.needed stepper.trimmed stepper.untrimmed stepper.result stepper.stepped stepper.fixedBy stepper.madeOf stepper.make run.after run.acceptedIn run.seen run.run
+unfolding requests.isPending requests.isOpen requests.askOf requests.askNumber requests.askStage requests.requestAfter requests.stageAfter requests.requestFits answers.kindOf answers.stateAsked answers.requestOf answers.candidateOf answers.errorShown answers.shownPart answers.stagesShown answers.rhsStagesShown answers.jacobianShown answers.timePartialShown answers.viewOf answers.answerOf tests.shapeFits tests.pivotsUnfit call.refusal call.guarded call.givenBy call.scratchBy call.progressAfter call.settle phases.opening call.opened call.attemptBy call.attemptOf call.towards call.attemptToOf call.supplyOf call.failed call.failOf phases.memoAccepted call.accepted call.acceptOf call.rejected call.rejectOf call.injected call.injectOf phases.fresh call.cleared call.restarted call.resetOf stepper.called counters.oneMore counters.tallied stepper.needed stepper.trimmed stepper.untrimmed stepper.result stepper.stepped stepper.fixedBy stepper.madeOf stepper.make run.after run.acceptedIn run.seen run.run
 calls = tt
 
 -- all of them

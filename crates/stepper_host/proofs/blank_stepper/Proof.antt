@@ -2,7 +2,7 @@
 use mathlib.Core.Path.{ap}
 use Rattle.statistics.specs.declared.StepStatistics.{StepStatistics}
 use Rattle.rosenbrock.specs.declared.RosenbrockStepper.{RosenbrockStepper}
-use Rattle.rosenbrock.specs.Calls.{fresh}
+use Rattle.phases.specs.Phases.{fresh}
 use Rattle.stepper_host.specs.Handed.{blankStepper}
 use Rattle.stepper_host.proofs.blank_stepper.Statement.{statement}
 use Rattle.stepper_host.proofs.blank_stepper.Tie as tie

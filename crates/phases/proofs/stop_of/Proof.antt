@@ -1,11 +1,11 @@
--- `rosenbrock::stop_of` meets its contract. Assumes nothing.
+-- `phases::stop_of` meets its contract. Assumes nothing.
 use mathlib.Core.List.{[]}
 use mathlib.Core.Path.{ap, _∙_}
 use Rattle.attempts.specs.declared.Stop.{Stop}
 use Rattle.attempts.specs.Attempt.{Stopped}
 use Rattle.attempts.specs.Calls.{stopBy}
-use Rattle.rosenbrock.proofs.stop_of.Statement.{statement}
-use Rattle.rosenbrock.proofs.stop_of.Tie as tie
+use Rattle.phases.proofs.stop_of.Statement.{statement}
+use Rattle.phases.proofs.stop_of.Tie as tie
 
 marks-of-requires : tie.Need-marks-of-requires
 marks-of-requires c κs = tt

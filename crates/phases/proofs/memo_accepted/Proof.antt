@@ -1,12 +1,12 @@
--- `rosenbrock::memo_accepted` meets its contract: by the step. Assumes nothing.
+-- `phases::memo_accepted` meets its contract: by the step. Assumes nothing.
 use mathlib.Core.Path.{_≡_, refl}
 use mathlib.Core.Bool.{true, false}
 use lib.Ieee.{eq}
 use Rattle.float.specs.Operators.{𝟎}
 use Rattle.attempts.specs.Marks.{withCaches}
-use Rattle.rosenbrock.specs.Calls.{memoAccepted}
-use Rattle.rosenbrock.proofs.memo_accepted.Statement.{statement}
-use Rattle.rosenbrock.proofs.memo_accepted.Tie as tie
+use Rattle.phases.specs.Phases.{memoAccepted}
+use Rattle.phases.proofs.memo_accepted.Statement.{statement}
+use Rattle.phases.proofs.memo_accepted.Tie as tie
 
 returns : tie.Need-returns
 unfolding memoAccepted withCaches
