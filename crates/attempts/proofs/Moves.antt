@@ -1,7 +1,7 @@
 -- What an open attempt moved, in the terms of the definitions. Assumes nothing.
 use Prim.Native.Nat.{ℕ}
 use mathlib.Core.Path.{_≡_, refl, sym, ap, _∙_}
-use mathlib.Core.Bool.{Bool, true, false, _||_}
+use mathlib.Core.Bool.{true, false, or-true}
 use mathlib.Core.List.{List}
 use lib.Ieee.{Float}
 use Rattle.attempts.specs.declared.Marks.{Marks}
@@ -47,10 +47,6 @@ module _ (x : Scratch) {s : Stopped} where
   pub jacobian-as : {r : Moved} (h : Halt) → r ≡ movedBy false false h → haltStop h (onMarks (counting countingJacobian) x) ≡ s → movedStop (with-jacobian r) x ≡ s
   unfolding movedStop movedMarks movedBy onMarks withCaches counting countingJacobian
   jacobian-as h e q = ap (λ (r : Moved). movedStop (with-jacobian r) x) e ∙ q
-
-or-true : (b : Bool) → (b || true) ≡ true
-or-true true = refl
-or-true false = refl
 
 -- a cache that now holds
 module _ (r : Moved) (m : Marks) (w : List Float) (p : List ℕ) {s : Stopped} where

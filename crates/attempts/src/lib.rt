@@ -1,7 +1,7 @@
 // The stages of an open attempt, between two requests. The names and the order of the tests are those
 // of rosenbrock.rs, whose attempt asks its closures where this one stops.
 ghost use mathlib.Core.Path.{_≡_};
-ghost use mathlib.Core.Bool.{_&&_, _||_};
+ghost use mathlib.Core.Bool.{_&&_};
 ghost use mathlib.Core.List.{List};
 ghost use Prim.Native.Nat.{ℕ, _+_, _*_, _≤_, _<_};
 ghost use lib.Dec.{eqb};
@@ -190,25 +190,19 @@ fn halt_stop(marks: Marks, halt: Halt) -> Stop
     }
 }
 
-fn either(a: bool, b: bool) -> bool
-    ensures { λ r. ⌜ r ≡ (a || b) ⌝ }
-{
-    if a {
-        return true;
-    }
-    b
-}
-
 // How it stops with these marks: what was moved is noted and counted.
 pub fn stop_by(mut marks: Marks, moved: Moved) -> Stop
     ensures { λ r. ⌜ Stops r marks (movedStop moved) ⌝ }
 {
     let halt = moved.halt;
-    let derivative_valid = either(moved.derivative, marks.memo.derivative_valid);
-    let differentiation_valid = either(moved.differentiation, marks.memo.differentiation_valid);
-    let jacobian_evaluations = either(moved.jacobian, marks.counted.jacobian_evaluations);
-    let factorizations = either(moved.factorization, marks.counted.factorizations);
-    let linear_solves = either(moved.solve, marks.counted.linear_solves);
+    let derivative_valid = float::either(moved.derivative, marks.memo.derivative_valid);
+    let differentiation_valid = float::either(
+        moved.differentiation,
+        marks.memo.differentiation_valid,
+    );
+    let jacobian_evaluations = float::either(moved.jacobian, marks.counted.jacobian_evaluations);
+    let factorizations = float::either(moved.factorization, marks.counted.factorizations);
+    let linear_solves = float::either(moved.solve, marks.counted.linear_solves);
     marks.memo.derivative_valid = derivative_valid;
     marks.memo.differentiation_valid = differentiation_valid;
     marks.counted.jacobian_evaluations = jacobian_evaluations;

@@ -52,13 +52,13 @@ pub enum NextStep {
 fn usable(x: f64) -> bool
     ensures { λ r. ⌜ r ≡ usable x ⌝ }
 {
-    settings::both(float::is_finite(x), x != 0.0)
+    float::both(float::is_finite(x), x != 0.0)
 }
 
 fn measured(step: f64, error: f64) -> bool
     ensures { λ r. ⌜ r ≡ measured step error ⌝ }
 {
-    settings::both(usable(step), 0.0 <= error)
+    float::both(usable(step), 0.0 <= error)
 }
 
 // Rejected, and no shorter step is allowed.
@@ -67,7 +67,7 @@ fn exhausted(config: ControllerConfig, step: f64, error: f64) -> bool
 {
     let accepted = proposal::accepted(config, step, error);
     let at_minimum = proposal::at_minimum(config, step);
-    settings::both(!accepted, at_minimum)
+    float::both(!accepted, at_minimum)
 }
 
 // Rejected, and the next step is no shorter.
@@ -76,7 +76,7 @@ fn stuck(step: f64, decision: StepDecision) -> bool
 {
     let accepted = decision.accepted;
     let next_step = decision.next_step;
-    settings::both(!accepted, float::abs(next_step) >= float::abs(step))
+    float::both(!accepted, float::abs(next_step) >= float::abs(step))
 }
 
 // The error that the history takes up.
@@ -195,7 +195,7 @@ fn restorable(config: ControllerConfig, state: ControllerState) -> bool
     let magnitude = float::abs(next_step);
     let usable = usable(next_step);
     let errors = state.errors_valid();
-    let limits = settings::both(
+    let limits = float::both(
         config.minimum_step <= magnitude,
         magnitude <= config.maximum_step,
     );
@@ -203,10 +203,7 @@ fn restorable(config: ControllerConfig, state: ControllerState) -> bool
         state.rejected_since_acceptance,
         state.consecutive_rejections,
     );
-    settings::both(
-        usable,
-        settings::both(errors, settings::both(limits, counted)),
-    )
+    float::both(usable, float::both(errors, float::both(limits, counted)))
 }
 
 impl Assessment {
@@ -229,7 +226,7 @@ impl AdaptiveController {
     {
         let config = self.config;
         let state = self.state;
-        settings::both(config.validate(), state.errors_valid())
+        float::both(config.validate(), state.errors_valid())
     }
 
     fn refusal(self) -> u32

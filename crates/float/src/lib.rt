@@ -1,6 +1,7 @@
 // The methods of Rust's f64 that the port uses, as Rust has them at NaN, -0 and the infinities; bit
-// patterns; the constants; a counter that stays at its largest value.
+// patterns; the constants; a counter that stays at its largest value; two tests as one.
 ghost use mathlib.Core.Path.{_≡_};
+ghost use mathlib.Core.Bool.{_&&_, _||_};
 ghost use lib.Ieee.{binary64, isNan, ofBits, toBits};
 ghost use lib.Ieee.Scale.{finite};
 ghost use Rattle.float.specs.Methods.{abs, maxNum, minNum, signum, clamp, finitePositive};
@@ -118,4 +119,20 @@ pub fn saturating_increment(n: u64) -> u64
         return n + 1;
     }
     n
+}
+
+// `&&` and `||` of two values: a caller stays without a branch.
+pub fn both(a: bool, b: bool) -> bool
+    ensures { λ r. ⌜ r ≡ (a && b) ⌝ }
+{
+    if a { b } else { false }
+}
+
+pub fn either(a: bool, b: bool) -> bool
+    ensures { λ r. ⌜ r ≡ (a || b) ⌝ }
+{
+    if a {
+        return true;
+    }
+    b
 }

@@ -1,1 +1,2 @@
 mod Landings
+pub mod Locals

@@ -33,9 +33,9 @@ fn forced(config: ControllerConfig, step: f64, error: f64) -> bool
 {
     let within_tolerance = within_tolerance(config, error);
     let at_minimum = at_minimum(config, step);
-    settings::both(
+    float::both(
         !within_tolerance,
-        settings::both(at_minimum, config.force_accept),
+        float::both(at_minimum, config.force_accept),
     )
 }
 
@@ -44,7 +44,7 @@ pub fn accepted(config: ControllerConfig, step: f64, error: f64) -> bool
 {
     let within_tolerance = within_tolerance(config, error);
     let forced = forced(config, step, error);
-    settings::either(within_tolerance, forced)
+    float::either(within_tolerance, forced)
 }
 
 // The two halves of a clamp: a NaN is kept.

@@ -1,7 +1,6 @@
 // The controller's settings and state: which are valid, and the settings of a proportional, a PI
 // and a PID controller.
 ghost use mathlib.Core.Path.{_≡_};
-ghost use mathlib.Core.Bool.{_&&_, _||_};
 ghost use lib.IntN.{pos};
 ghost use lib.Ieee.{binary64, ofInt};
 ghost use Rattle.settings.specs.Valid.{fraction, validExponents, validFactors, validSteps, validHistory, validLimits, validSettings, validErrors};
@@ -44,29 +43,10 @@ pub struct Settings {
     pub refusal: u32,
 }
 
-// `&&` and `||` of two values: a caller stays without a branch.
-pub fn both(a: bool, b: bool) -> bool
-    ensures { λ r. ⌜ r ≡ (a && b) ⌝ }
-{
-    if a {
-        return b;
-    }
-    false
-}
-
-pub fn either(a: bool, b: bool) -> bool
-    ensures { λ r. ⌜ r ≡ (a || b) ⌝ }
-{
-    if a {
-        return true;
-    }
-    b
-}
-
 fn fraction(x: f64) -> bool
     ensures { λ r. ⌜ r ≡ fraction x ⌝ }
 {
-    both(0.0 < x, x <= 1.0)
+    float::both(0.0 < x, x <= 1.0)
 }
 
 // A whole number as a double, rounded once: its halves, and the upper one's place, are exact.
@@ -130,11 +110,11 @@ impl ControllerConfig {
         let first = float::is_finite_positive(beta[0]);
         let second = float::is_finite(beta[1]);
         let third = float::is_finite(beta[2]);
-        let rejection = either(
+        let rejection = float::either(
             !self.has_rejection_exponent,
             float::is_finite_positive(self.rejection_exponent),
         );
-        both(first, both(second, both(third, rejection)))
+        float::both(first, float::both(second, float::both(third, rejection)))
     }
 
     fn factors_valid(self) -> bool
@@ -142,21 +122,24 @@ impl ControllerConfig {
     {
         let safety = float::is_finite_positive(self.safety);
         let least = fraction(self.minimum_factor);
-        let most = both(
+        let most = float::both(
             self.minimum_factor <= self.maximum_factor,
             float::is_finite(self.maximum_factor),
         );
         let rejection = fraction(self.rejection_maximum);
         let acceptance = float::is_finite_positive(self.rejected_acceptance_maximum);
-        let repeated = either(
+        let repeated = float::either(
             !self.has_repeated_rejection_maximum,
             fraction(self.repeated_rejection_maximum),
         );
-        both(
+        float::both(
             safety,
-            both(
+            float::both(
                 least,
-                both(most, both(rejection, both(acceptance, repeated))),
+                float::both(
+                    most,
+                    float::both(rejection, float::both(acceptance, repeated)),
+                ),
             ),
         )
     }
@@ -164,11 +147,11 @@ impl ControllerConfig {
     fn steps_valid(self) -> bool
         ensures { λ r. ⌜ r ≡ validSteps self ⌝ }
     {
-        let minimum = both(
+        let minimum = float::both(
             0.0 <= self.minimum_step,
             self.minimum_step <= self.maximum_step,
         );
-        both(minimum, float::is_finite_positive(self.maximum_step))
+        float::both(minimum, float::is_finite_positive(self.maximum_step))
     }
 
     fn history_valid(self) -> bool
@@ -177,8 +160,8 @@ impl ControllerConfig {
         let errors = self.initial_error_history;
         let recent = float::is_finite_positive(errors[0]);
         let older = float::is_finite_positive(errors[1]);
-        both(
-            both(recent, older),
+        float::both(
+            float::both(recent, older),
             float::is_finite_positive(self.error_history_floor),
         )
     }
@@ -190,7 +173,7 @@ impl ControllerConfig {
         let factors = self.factors_valid();
         let steps = self.steps_valid();
         let history = self.history_valid();
-        both(factors, both(steps, history))
+        float::both(factors, float::both(steps, history))
     }
 
     pub fn validate(self) -> bool
@@ -198,7 +181,7 @@ impl ControllerConfig {
     {
         let exponents = self.exponents_valid();
         let limits = self.limits_valid();
-        both(exponents, limits)
+        float::both(exponents, limits)
     }
 }
 
@@ -210,6 +193,6 @@ impl ControllerState {
         let errors = self.accepted_errors;
         let latest = float::is_finite_positive(errors[0]);
         let older = float::is_finite_positive(errors[1]);
-        both(latest, older)
+        float::both(latest, older)
     }
 }

@@ -1,6 +1,5 @@
 // The tableau file: its check, its counts and coefficients, and whether two files hold one tableau.
 ghost use mathlib.Core.Path.{_≡_};
-ghost use mathlib.Core.Bool.{_&&_};
 ghost use Prim.Native.Nat.{ℕ, _+_, _-_, _*_, _/_, _≤_, _<_};
 ghost use lib.ListN.{length};
 ghost use lib.Ieee.{binary64, ofBits};
@@ -26,12 +25,6 @@ pub enum Sameness {
     Same,
     Other,
     Refused(u32),
-}
-
-fn and(a: bool, b: bool) -> bool
-    ensures { λ r. ⌜ r ≡ (a && b) ⌝ }
-{
-    if a { b } else { false }
 }
 
 fn wide(x: u32) -> usize
@@ -73,9 +66,9 @@ fn read_counts(file: &[u8]) -> Counts
 fn in_range(k: Counts) -> bool
     ensures { λ r. ⌜ r ≡ inRange k ⌝ }
 {
-    and(
-        and(1 <= k.stages, k.stages <= 8),
-        and(k.kind <= 1, and(k.estimator <= 1, k.btilde <= 1)),
+    float::both(
+        float::both(1 <= k.stages, k.stages <= 8),
+        float::both(k.kind <= 1, float::both(k.estimator <= 1, k.btilde <= 1)),
     )
 }
 
@@ -122,7 +115,7 @@ fn headed(file: &[u8], head: &[usize; 12]) -> bool
     let mut ok = true;
     let mut i: usize = 0;
     while i < 12 {
-        ok = and(ok, number(file, i) == head[i]);
+        ok = float::both(ok, number(file, i) == head[i]);
         i += 1;
     }
     ok
@@ -153,7 +146,7 @@ fn all_allowed(file: &[u8]) -> bool
     let mut ok = true;
     let mut i: usize = 0;
     while i < n {
-        ok = and(ok, allowed(codec::read_u64(file, HEADER + 8 * i)));
+        ok = float::both(ok, allowed(codec::read_u64(file, HEADER + 8 * i)));
         i += 1;
     }
     ok
@@ -311,9 +304,9 @@ pub fn btilde(file: &[u8], i: usize) -> f64
 fn same_counts(j: Counts, k: Counts) -> bool
     ensures { λ r. ⌜ r ≡ sameCounts j k ⌝ }
 {
-    and(
-        and(j.stages == k.stages, j.kind == k.kind),
-        and(j.estimator == k.estimator, j.btilde == k.btilde),
+    float::both(
+        float::both(j.stages == k.stages, j.kind == k.kind),
+        float::both(j.estimator == k.estimator, j.btilde == k.btilde),
     )
 }
 
@@ -331,7 +324,7 @@ fn all_alike(x: &[u8], y: &[u8]) -> bool
     let mut ok = true;
     let mut i: usize = 0;
     while i < n {
-        ok = and(ok, alike(coefficient(x, i), coefficient(y, i)));
+        ok = float::both(ok, alike(coefficient(x, i), coefficient(y, i)));
         i += 1;
     }
     ok

@@ -32,8 +32,8 @@ coefficient-requires-2 c κs = tt
 alike-requires : tie.Need-alike-requires Inv-loop μ-loop
 alike-requires c κs = tt
 
-and-requires : tie.Need-and-requires Inv-loop μ-loop
-and-requires c κs = tt
+both-requires : tie.Need-both-requires Inv-loop μ-loop
+both-requires c κs = tt
 
 add-i : tie.Need-add-i Inv-loop μ-loop
 add-i c = search needs
@@ -46,7 +46,7 @@ unfolding alikeAt
 loop-again c =
     let l = c .before .before .before .before .before .loop in
     let a = c .before .before .before .before .before .before .before .before .before .args in
-    (omega arith, every-more (alikeAt (coefficientsOf (a .x .now)) (coefficientsOf (a .y .now))) (l .i) (c .and .ensures) (l .inv .1) (c .before .alike .ensures ∙ rw (c .before .before .before .coefficient .ensures, c .before .before .coefficient2 .ensures)))
+    (omega arith, every-more (alikeAt (coefficientsOf (a .x .now)) (coefficientsOf (a .y .now))) (l .i) (c .both .ensures) (l .inv .1) (c .before .alike .ensures ∙ rw (c .before .before .before .coefficient .ensures, c .before .before .coefficient2 .ensures)))
 
 returns : tie.Need-returns Inv-loop μ-loop
 returns c =
@@ -65,7 +65,7 @@ all-alike-spec =
     coefficient-requires
     coefficient-requires-2
     alike-requires
-    and-requires
+    both-requires
     add-i
     loop-less
     loop-again

@@ -35,8 +35,8 @@ read-u64-requires c κs = search needs
 allowed-requires : tie.Need-allowed-requires Inv-loop μ-loop
 allowed-requires c κs = tt
 
-and-requires : tie.Need-and-requires Inv-loop μ-loop
-and-requires c κs = tt
+both-requires : tie.Need-both-requires Inv-loop μ-loop
+both-requires c κs = tt
 
 add-i : tie.Need-add-i Inv-loop μ-loop
 add-i c = search needs
@@ -49,7 +49,7 @@ unfolding allowedAt
 loop-again c =
     let l = c .before .before .before .before .loop in
     let file = c .before .before .before .before .before .before .before .args .file .now in
-    (omega arith, every-more (allowedAt (coefficientsOf file)) (l .i) (c .and .ensures) (l .inv .1) (c .before .allowed .ensures ∙ rw (coefficient-at file (l .i) (omega arith), c .before .before .read-u64 .ensures)))
+    (omega arith, every-more (allowedAt (coefficientsOf file)) (l .i) (c .both .ensures) (l .inv .1) (c .before .allowed .ensures ∙ rw (coefficient-at file (l .i) (omega arith), c .before .before .read-u64 .ensures)))
 
 returns : tie.Need-returns Inv-loop μ-loop
 returns c =
@@ -69,7 +69,7 @@ all-allowed-spec =
     add-read-u64
     read-u64-requires
     allowed-requires
-    and-requires
+    both-requires
     add-i
     loop-less
     loop-again

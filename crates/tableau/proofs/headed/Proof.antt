@@ -21,14 +21,14 @@ loop-holds c = (omega arith, sym (every-none _))
 number-requires : tie.Need-number-requires Inv-loop μ-loop
 number-requires c κs = search needs
 
-mul-and : tie.Need-mul-and Inv-loop μ-loop
-mul-and c = search needs
+mul-both : tie.Need-mul-both Inv-loop μ-loop
+mul-both c = search needs
 
-element-copy-out-and : tie.Need-element-copy-out-and Inv-loop μ-loop
-element-copy-out-and c = search needs
+element-copy-out-both : tie.Need-element-copy-out-both Inv-loop μ-loop
+element-copy-out-both c = search needs
 
-and-requires : tie.Need-and-requires Inv-loop μ-loop
-and-requires c κs = tt
+both-requires : tie.Need-both-requires Inv-loop μ-loop
+both-requires c κs = tt
 
 add-i : tie.Need-add-i Inv-loop μ-loop
 add-i c = search needs
@@ -41,7 +41,7 @@ unfolding matches
 loop-again c =
     let l = c .before .before .before .before .loop in
     let a = c .before .before .before .before .before .before .args in
-    (omega arith, every-more (matches (a .file .now) (a .head .now)) (l .i) (c .and .ensures) (l .inv .1) (rw (c .before .before .number .ensures)))
+    (omega arith, every-more (matches (a .file .now) (a .head .now)) (l .i) (c .both .ensures) (l .inv .1) (rw (c .before .before .number .ensures)))
 
 returns : tie.Need-returns Inv-loop μ-loop
 returns c =
@@ -57,9 +57,9 @@ headed-spec =
     μ-loop
     loop-holds
     number-requires
-    mul-and
-    element-copy-out-and
-    and-requires
+    mul-both
+    element-copy-out-both
+    both-requires
     add-i
     loop-less
     loop-again

@@ -3,17 +3,17 @@ use Rattle.tableau.specs.Tableau.{inRange}
 use Rattle.tableau.proofs.in_range.Statement.{statement}
 use Rattle.tableau.proofs.in_range.Tie as tie
 
-and-requires : tie.Need-and-requires
-and-requires c κs = tt
+both-requires : tie.Need-both-requires
+both-requires c κs = tt
 
-and-requires-2 : tie.Need-and-requires-2
-and-requires-2 c κs = tt
+both-requires-2 : tie.Need-both-requires-2
+both-requires-2 c κs = tt
 
-and-requires-3 : tie.Need-and-requires-3
-and-requires-3 c κs = tt
+both-requires-3 : tie.Need-both-requires-3
+both-requires-3 c κs = tt
 
-and-requires-4 : tie.Need-and-requires-4
-and-requires-4 c κs = tt
+both-requires-4 : tie.Need-both-requires-4
+both-requires-4 c κs = tt
 
 returns : tie.Need-returns
 unfolding inRange
@@ -21,4 +21,4 @@ returns c = cc
 
 pub in-range-spec : {M : Type 1} → statement M
 in-range-spec =
-    tie.close (tie.spec and-requires and-requires-2 and-requires-3 and-requires-4 returns)
+    tie.close (tie.spec both-requires both-requires-2 both-requires-3 both-requires-4 returns)
