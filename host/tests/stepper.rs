@@ -61,6 +61,38 @@ fn two_steps_of_the_pond() {
 }
 
 #[test]
+fn what_is_not_written_stays_until_a_reset() {
+    let mut stepper = stepper(&[1.0, 2.0]);
+    // an attempt whose Jacobian writes its diagonal and, if it is handed one, one entry beside it
+    let mut shown = |entry: Option<f64>, reset: bool| -> (Vec<f64>, Vec<f64>) {
+        let mut jacobian = |_: f64, _: &[f64], out: &mut [f64]| -> Result<(), String> {
+            (out[0], out[3]) = (-1.0, -1.0);
+            out[1] = entry.unwrap_or(out[1]);
+            Ok(())
+        };
+        let mut partial = |_: f64, _: &[f64], out: &mut [f64]| -> Result<(), String> {
+            out[0] += 1.0;
+            Ok(())
+        };
+        if reset {
+            stepper.reset(0.0, &[1.0, 2.0]).unwrap();
+        }
+        let view = stepper
+            .attempt(0.5, &mut decay, Some(&mut jacobian), Some(&mut partial))
+            .unwrap();
+        let shown = (view.jacobian.to_vec(), view.time_partial.to_vec());
+        stepper.accept().unwrap();
+        shown
+    };
+    let diagonal = vec![-1.0, 0.0, 0.0, -1.0];
+    let beside = vec![-1.0, 0.25, 0.0, -1.0];
+    assert_eq!(shown(None, false), (diagonal.clone(), vec![1.0, 0.0]));
+    assert_eq!(shown(Some(0.25), false), (beside.clone(), vec![2.0, 0.0]));
+    assert_eq!(shown(None, false), (beside, vec![3.0, 0.0]));
+    assert_eq!(shown(None, true), (diagonal, vec![1.0, 0.0]));
+}
+
+#[test]
 fn a_zero_step_shows_no_stages() {
     let file = Coefficients {
         btilde: Some(vec![1.0]),

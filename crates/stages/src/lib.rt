@@ -217,6 +217,12 @@ pub fn stage_solved(
     requires { ⌜ Room n s (length (now work)) × Stage n s i × PivotRows n (now pivots) ⌝ }
     ensures { λ _. ⌜ now (work .exit) ≡ withStageSolved n s (tableauOf (now (file .entry))) (now (pivots .entry)) i step (now (work .entry)) ⌝ }
 {
+    // few components: a short array takes less time to clear
+    if n <= 8 {
+        let mut few = [0.0; 8];
+        solve_stage(work, file, pivots, &mut few[..n], n, s, i, step);
+        return;
+    }
     let mut rhs = [0.0; 32];
     solve_stage(work, file, pivots, &mut rhs[..n], n, s, i, step);
 }
