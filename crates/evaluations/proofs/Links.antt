@@ -2,14 +2,15 @@
 use Prim.Native.Nat.{ℕ, _+_, _*_, _≤_}
 use native.Mathlib.Omega.{arith}
 use mathlib.Core.Path.{_≡_, ap, _∙_}
+use mathlib.Core.Bool.{Bool}
 use mathlib.Core.List.{List}
 use lib.ListN.{length, replicate, length-replicate, getD-replicate}
 use lib.Ieee.{Float, nan}
 use borrow.Rule.Slice.PartMut.{putMid}
 use Rattle.float.specs.Operators.{𝟎}
-use Rattle.vector.specs.Lists.{el}
+use Rattle.vector.specs.Lists.{el, allFinite}
 use Rattle.vector.specs.Parts.{part, puts}
-use Rattle.vector.proofs.Parts.{length-part}
+use Rattle.vector.proofs.Parts.{length-part, part-stored}
 use Rattle.vector.proofs.Stores.{length-puts, puts-same, mid-puts}
 use Rattle.differentiation.specs.Memory.{withColumn}
 use Rattle.attempts.proofs.Links.{then}
@@ -26,3 +27,8 @@ begun-as w state n k {u} {y} h b q e f =
 
 pub column-as : (n k : ℕ) {u u' v : List Float} {x y : Float} → x ≡ y → u ≡ u' → v ≡ withColumn n k x u → v ≡ withColumn n k y u'
 column-as n k a l e = cc
+
+-- a Jacobian that was stored is finite where its values are
+pub stored-finite : (w values : List Float) (n : ℕ) {b : Bool} → length values ≡ n * n → 8 * n + n * n ≤ length w → allFinite values ≡ b
+    → allFinite (part (8 * n) (n * n) (puts w (8 * n) (el values) (n * n))) ≡ b
+stored-finite w values n h l e = ap allFinite (part-stored w (8 * n) values (n * n) nan h l) ∙ e

@@ -3,14 +3,16 @@
 // where this one stops.
 ghost use mathlib.Core.Path.{_≡_};
 ghost use mathlib.Core.List.{List};
-ghost use Prim.Native.Nat.{ℕ, _<_};
+ghost use Prim.Native.Nat.{ℕ, _*_, _<_};
+ghost use lib.Ieee.{Float};
 ghost use lib.ListN.{length};
 ghost use Rattle.tableau.specs.Tableau.{Tableau};
 ghost use Rattle.tableau.specs.File.{tableauOf};
-ghost use Rattle.stages.specs.Layout.{Stage, PivotRows};
+ghost use Rattle.stages.specs.Layout.{Room, Stage, PivotRows};
 ghost use Rattle.attempts.specs.declared.Counted.{Counted};
 ghost use Rattle.attempts.specs.declared.Marks.{Marks};
-ghost use Rattle.attempts.specs.Attempt.{given, scratch, differentiate, begun, evaluate, start, resume};
+ghost use Rattle.attempts.specs.Marks.{countingJacobian, counting};
+ghost use Rattle.attempts.specs.Attempt.{Scratch, given, scratch, onMarks, differentiate, begun, evaluate, start, resume};
 ghost use Rattle.attempts.specs.Calls.{Sizes, Answers, haltStop, movedStop, marked};
 use attempts::Ask;
 use attempts::Halt;
@@ -20,7 +22,16 @@ use attempts::Setting;
 
 // ---- the caches
 
-// valid: the Jacobian and the time partial are cached.
+// A Jacobian that is asked for is counted.
+fn jacobian_asked(halt: Halt) -> Moved
+    ensures { λ r. ⌜ ((x : Scratch) → movedStop r x ≡ haltStop halt (onMarks (counting countingJacobian) x)) ⌝ }
+{
+    let mut moved = attempts::moved_by(false, false, halt);
+    moved.jacobian = true;
+    moved
+}
+
+// The host's Jacobian, or the first of its columns. valid: the Jacobian and the time partial are cached.
 fn differentiate(
     g: Setting,
     file: &[u8],
@@ -36,10 +47,10 @@ fn differentiate(
     if valid {
         return attempts::factor(file, state, work, pivots, g.n, g.s, g.time, g.step);
     }
-    let halt = partials::ask_jacobian(g, state, work);
-    let mut moved = attempts::moved_by(false, false, halt);
-    moved.jacobian = true;
-    moved
+    if g.host_jacobian {
+        return jacobian_asked(Halt::Jacobian(g.time));
+    }
+    jacobian_asked(partials::next_column(g, state, work, 0))
 }
 
 // ---- the start
@@ -115,6 +126,21 @@ fn resume_derivative(
     let mut moved = differentiate(g, file, state, work, pivots, memo.differentiation_valid);
     moved.derivative = true;
     moved
+}
+
+fn resume_jacobian(g: Setting, work: &mut [f64], values: &[f64]) -> Halt
+    requires { ⌜ Room (g .n) (g .s) (length (now work)) × (length (now values) ≡ g .n * g .n) ⌝ }
+    ensures { λ r. ⌜ ((t : Tableau) (state : List Float) (m : Marks) (p : List ℕ) → haltStop r (scratch m (now (work .exit)) p)
+        ≡ resume (given g t state) Ask.Jacobian (now (values .entry)) (scratch m (now (work .entry)) p)) ⌝ }
+{
+    vector::put(work, 8 * g.n, values);
+    if !vector::all_finite(values) {
+        return Halt::Ends(stepping::NON_FINITE);
+    }
+    if g.host_time_partial {
+        return Halt::TimePartial(g.time);
+    }
+    partials::ask_probes(g)
 }
 
 fn resume_first_probe(
@@ -219,8 +245,7 @@ pub fn resume(
             return resume_derivative(g, file, state, work, pivots, memo, values);
         }
         Ask::Jacobian => {
-            vector::put(work, 8 * n, values);
-            return attempts::moved_by(false, false, partials::jacobian_done(g, work));
+            return attempts::moved_by(false, false, resume_jacobian(g, work, values));
         }
         Ask::TimePartial => {
             vector::put(work, 4 * n, values);

@@ -6,12 +6,13 @@ ghost use mathlib.Core.List.{List};
 ghost use Prim.Native.Nat.{ℕ, _≤_, _<_};
 ghost use lib.Ieee.{Float};
 ghost use lib.ListN.{length};
+ghost use Rattle.time_difference.specs.Policy.{probes};
 ghost use Rattle.tableau.specs.Tableau.{Tableau};
 ghost use Rattle.tableau.specs.File.{tableauOf};
 ghost use Rattle.stages.specs.Layout.{Room};
 ghost use Rattle.attempts.specs.declared.Counted.{Counted};
 ghost use Rattle.attempts.specs.declared.Marks.{Marks};
-ghost use Rattle.attempts.specs.Attempt.{Given, Scratch, given, scratch, partialDone, combine, askFirstProbe, askPartial, jacobianDone, openColumn, nextColumn, askJacobian};
+ghost use Rattle.attempts.specs.Attempt.{Given, Scratch, given, scratch, partialDone, combine, askFirstProbe, jacobianDone, openColumn, nextColumn};
 ghost use Rattle.attempts.specs.Calls.{Sizes, haltStop, movedStop, marked};
 use attempts::Halt;
 use attempts::Memo;
@@ -72,20 +73,19 @@ fn ask_first_probe(probes: Probes) -> Halt
     }
 }
 
-// The host's time partial, or the first of its probes.
-fn ask_partial(g: Setting) -> Halt
-    ensures { λ r. ⌜ ((t : Tableau) (state : List Float) (x : Scratch) → haltStop r x ≡ askPartial (given g t state) x) ⌝ }
+// The first probe of the time partial that the policy asks for.
+pub fn ask_probes(g: Setting) -> Halt
+    ensures { λ r. ⌜ ((t : Tableau) (state : List Float) (x : Scratch) → haltStop r x ≡ askFirstProbe (given g t state) (probes (g .policy) (g .time) (g .step)) x) ⌝ }
 {
-    if g.host_time_partial {
-        return Halt::TimePartial(g.time);
-    }
     let policy = g.policy;
     ask_first_probe(policy.probes(g.time, g.step))
 }
 
 // ---- the Jacobian, then the time partial
 
-pub fn jacobian_done(g: Setting, work: &[f64]) -> Halt
+// The host's time partial, or the first of its probes. A Jacobian of the host's own is tested where it is
+// supplied (crates/evaluations), so that its answer is made there and not copied.
+fn jacobian_done(g: Setting, work: &[f64]) -> Halt
     requires { ⌜ Room (g .n) (g .s) (length (now work)) ⌝ }
     ensures { λ r. ⌜ ((t : Tableau) (state : List Float) (m : Marks) (p : List ℕ) → haltStop r (scratch m (now (work .entry)) p)
         ≡ jacobianDone (given g t state) (scratch m (now (work .entry)) p)) ⌝ }
@@ -94,7 +94,10 @@ pub fn jacobian_done(g: Setting, work: &[f64]) -> Halt
     if !attempts::finite_at(work, 8 * n, n * n) {
         return Halt::Ends(stepping::NON_FINITE);
     }
-    ask_partial(g)
+    if g.host_time_partial {
+        return Halt::TimePartial(g.time);
+    }
+    ask_probes(g)
 }
 
 // Column k of the probed Jacobian: the derivative at the probe's state.
@@ -124,16 +127,4 @@ pub fn next_column(g: Setting, state: &[f64], work: &mut [f64], k: usize) -> Hal
         return jacobian_done(g, work);
     }
     open_column(g, state, work, k)
-}
-
-// The host's Jacobian, or the first of its columns.
-pub fn ask_jacobian(g: Setting, state: &[f64], work: &mut [f64]) -> Halt
-    requires { ⌜ Sizes g (length (now state)) (length (now work)) ⌝ }
-    ensures { λ r. ⌜ ((t : Tableau) (m : Marks) (p : List ℕ) → haltStop r (scratch m (now (work .exit)) p)
-        ≡ askJacobian (given g t (now (state .entry))) (scratch m (now (work .entry)) p)) ⌝ }
-{
-    if g.host_jacobian {
-        return Halt::Jacobian(g.time);
-    }
-    next_column(g, state, work, 0)
 }

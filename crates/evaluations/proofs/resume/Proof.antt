@@ -3,8 +3,8 @@ use native.Mathlib.Omega.{arith}
 use mathlib.Core.Path.{refl, ap, _∙_}
 use borrow.Author.Needs.{needs}
 use Rattle.vector.specs.Parts.{puts}
-use Rattle.attempts.specs.Attempt.{onWork, partialDone, jacobianDone, written, resume, wanted}
-use Rattle.attempts.proofs.Links.{via, then, stage-of, left}
+use Rattle.attempts.specs.Attempt.{onWork, partialDone, written, resume, wanted}
+use Rattle.attempts.proofs.Links.{via, then, stage-of}
 use Rattle.attempts.proofs.Moves.{unmoved}
 use Rattle.evaluations.proofs.resume.Statement.{statement}
 use Rattle.evaluations.proofs.resume.Tie as tie
@@ -28,15 +28,9 @@ returns c k = rw (c .before .before .before .before .before .before .before .enu
 enum-told-2 : tie.Need-enum-told-2
 enum-told-2 c = search needs
 
-mul-put : tie.Need-mul-put
-mul-put c = search needs
-
-put-requires : tie.Need-put-requires
+resume-jacobian-requires : tie.Need-resume-jacobian-requires
 unfolding wanted
-put-requires c κs = let q = c .before .before .before .before .before .before .before .before .pre .2 .values ∙ ap (wanted (c .before .before .before .before .before .before .before .before .args .g .n)) (c .before .enum-told2 .given .1) in omega arith
-
-jacobian-done-requires : tie.Need-jacobian-done-requires
-jacobian-done-requires c κs = search needs
+resume-jacobian-requires c κs = (c .before .before .before .before .before .before .before .before .pre .0 .room, c .before .before .before .before .before .before .before .before .pre .2 .values ∙ ap (wanted (c .before .before .before .before .before .before .before .before .args .g .n)) (c .before .enum-told2 .given .1))
 
 moved-by-requires : tie.Need-moved-by-requires
 moved-by-requires c κs = tt
@@ -45,18 +39,17 @@ same-length-3 : tie.Need-same-length-3
 same-length-3 c = search needs
 
 returns-2 : tie.Need-returns-2
-unfolding resume written onWork wanted
-returns-2 c k = let q = c .before .before .before .before .before .before .before .before .before .before .before .before .before .before .pre .2 .values ∙ ap (wanted (c .before .before .before .before .before .before .before .before .before .before .before .before .before .before .args .g .n)) (c .before .before .before .before .before .before .before .enum-told2 .given .1) in rw (c .before .before .before .before .before .before .before .enum-told2 .given .1) (unmoved _ _ (c .moved-by .ensures) (c .before .jacobian-done .ensures _ _ _ _ ∙ left (jacobianDone _) _ _ (then (puts _ _ _) q (c .before .before .before .before .before .put .ensures))))
+returns-2 c k = rw (c .before .before .before .before .before .enum-told2 .given .1) (unmoved _ _ (c .moved-by .ensures) (c .before .before .before .resume-jacobian .ensures _ _ _ _))
 
 enum-told-3 : tie.Need-enum-told-3
 enum-told-3 c = search needs
 
-mul-put-2 : tie.Need-mul-put-2
-mul-put-2 c = search needs
+mul-put : tie.Need-mul-put
+mul-put c = search needs
 
-put-requires-2 : tie.Need-put-requires-2
+put-requires : tie.Need-put-requires
 unfolding wanted
-put-requires-2 c κs = let q = c .before .before .before .before .before .before .before .before .pre .2 .values ∙ ap (wanted (c .before .before .before .before .before .before .before .before .args .g .n)) (c .before .enum-told3 .given .1) in omega arith
+put-requires c κs = let q = c .before .before .before .before .before .before .before .before .pre .2 .values ∙ ap (wanted (c .before .before .before .before .before .before .before .before .args .g .n)) (c .before .enum-told3 .given .1) in omega arith
 
 partial-done-requires : tie.Need-partial-done-requires
 partial-done-requires c κs = search needs
@@ -69,7 +62,7 @@ same-length-5 c = search needs
 
 returns-3 : tie.Need-returns-3
 unfolding resume written onWork wanted
-returns-3 c k = let q = c .before .before .before .before .before .before .before .before .before .before .before .before .before .before .before .before .before .before .pre .2 .values ∙ ap (wanted (c .before .before .before .before .before .before .before .before .before .before .before .before .before .before .before .before .before .before .args .g .n)) (c .before .before .before .before .before .before .before .before .before .before .before .enum-told3 .given .1) in rw (c .before .before .before .before .before .before .before .before .before .before .before .enum-told3 .given .1) (via (partialDone _) refl (then (puts _ _ _) q (c .before .before .before .before .before .before .before .before .before .put2 .ensures)) refl (c .before .before .before .before .partial-done .ensures _))
+returns-3 c k = let q = c .before .before .before .before .before .before .before .before .before .before .before .before .before .before .before .before .before .before .pre .2 .values ∙ ap (wanted (c .before .before .before .before .before .before .before .before .before .before .before .before .before .before .before .before .before .before .args .g .n)) (c .before .before .before .before .before .before .before .before .before .before .before .enum-told3 .given .1) in rw (c .before .before .before .before .before .before .before .before .before .before .before .enum-told3 .given .1) (via (partialDone _) refl (then (puts _ _ _) q (c .before .before .before .before .before .before .before .before .before .put .ensures)) refl (c .before .before .before .before .partial-done .ensures _))
 
 enum-told-4 : tie.Need-enum-told-4
 enum-told-4 c = search needs
@@ -136,4 +129,4 @@ returns-7 : tie.Need-returns-7
 returns-7 c k = rw (c .before .before .before .before .before .before .ask2 .given .1) (c .before .before .resume-stage .ensures _)
 
 pub resume-spec : {M : Type 1} → statement M
-resume-spec = tie.close (tie.spec enum-told resume-derivative-requires same-length same-length-2 returns enum-told-2 mul-put put-requires jacobian-done-requires moved-by-requires same-length-3 returns-2 enum-told-3 mul-put-2 put-requires-2 partial-done-requires same-length-4 same-length-5 returns-3 enum-told-4 resume-first-probe-requires same-length-6 same-length-7 returns-4 enum-told-5 resume-second-probe-requires same-length-8 same-length-9 returns-5 enum-known-ask resume-column-requires moved-by-requires-2 same-length-10 returns-6 enum-known-ask-2 resume-stage-requires same-length-11 same-length-12 returns-7)
+resume-spec = tie.close (tie.spec enum-told resume-derivative-requires same-length same-length-2 returns enum-told-2 resume-jacobian-requires moved-by-requires same-length-3 returns-2 enum-told-3 mul-put put-requires partial-done-requires same-length-4 same-length-5 returns-3 enum-told-4 resume-first-probe-requires same-length-6 same-length-7 returns-4 enum-told-5 resume-second-probe-requires same-length-8 same-length-9 returns-5 enum-known-ask resume-column-requires moved-by-requires-2 same-length-10 returns-6 enum-known-ask-2 resume-stage-requires same-length-11 same-length-12 returns-7)
