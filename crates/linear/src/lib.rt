@@ -317,10 +317,12 @@ fn forward_substitution(factors: &[f64], x: &mut [f64], n: usize)
 }
 
 // Solves U x = y above row `below`, where the unknowns from that row on are found and `last` is its own.
-fn back_rows(factors: &[f64], x: &mut [f64], n: usize, mut below: usize, mut last: f64)
+// Hands back the first unknown, which is found last.
+fn back_rows(factors: &[f64], x: &mut [f64], n: usize, mut below: usize, mut last: f64) -> f64
     requires { ⌜ (n ≤ 32) × (length (now factors) ≡ n * n) × (length (now x) ≡ n) × (below < n) × (last ≡ el (now x) below) ⌝ }
-    ensures { λ _. ⌜ ((y : ℕ → Float) → drop below (now (x .entry)) ≡ backSubstitution n (upper n (now (factors .entry))) y (n - below)
-        → ((j : ℕ) → j < below → el (now (x .entry)) j ≡ y j) → now (x .exit) ≡ backSubstitution n (upper n (now (factors .entry))) y n) ⌝ }
+    ensures { λ r. ⌜ ((y : ℕ → Float) → drop below (now (x .entry)) ≡ backSubstitution n (upper n (now (factors .entry))) y (n - below)
+        → ((j : ℕ) → j < below → el (now (x .entry)) j ≡ y j) → now (x .exit) ≡ backSubstitution n (upper n (now (factors .entry))) y n)
+        × (r ≡ el (now (x .exit)) 0) ⌝ }
 {
     while 0 < below {
         let row = below - 1;
@@ -333,28 +335,30 @@ fn back_rows(factors: &[f64], x: &mut [f64], n: usize, mut below: usize, mut las
         x[row] = last;
         below = row;
     }
+    last
 }
 
-// Solves U x = y in place, from the last row up.
-fn back_substitution(factors: &[f64], x: &mut [f64], n: usize)
+// Solves U x = y in place, from the last row up, and hands back the first unknown.
+fn back_substitution(factors: &[f64], x: &mut [f64], n: usize) -> f64
     requires { ⌜ (0 < n) × (n ≤ 32) × (length (now factors) ≡ n * n) × (length (now x) ≡ n) ⌝ }
-    ensures { λ _. ⌜ now (x .exit) ≡ backSubstitution n (upper n (now (factors .entry))) (el (now (x .entry))) n ⌝ }
+    ensures { λ r. ⌜ (now (x .exit) ≡ backSubstitution n (upper n (now (factors .entry))) (el (now (x .entry))) n) × (r ≡ el (now (x .exit)) 0) ⌝ }
 {
     let end = n - 1;
     let corner = end * n + end;
     let last = x[end] / factors[corner];
     x[end] = last;
-    back_rows(factors, x, n, end, last);
+    back_rows(factors, x, n, end, last)
 }
 
-// Solves a factored system in place; sizes and pivots that fit are the caller's to see to.
-pub fn solve_factorized(factors: &[f64], pivots: &[usize], rhs: &mut [f64], n: usize)
+// Solves a factored system in place; sizes and pivots that fit are the caller's to see to. Hands back the
+// first unknown: it was found last, and a caller that reads it with its neighbour would wait for its store.
+pub fn solve_factorized(factors: &[f64], pivots: &[usize], rhs: &mut [f64], n: usize) -> f64
     requires { ⌜ Solvable n (now factors) (now pivots) (now rhs) ⌝ }
-    ensures { λ _. ⌜ now (rhs .exit) ≡ solution n (now (factors .entry)) (now (pivots .entry)) (now (rhs .entry)) ⌝ }
+    ensures { λ r. ⌜ (now (rhs .exit) ≡ solution n (now (factors .entry)) (now (pivots .entry)) (now (rhs .entry))) × (r ≡ el (now (rhs .exit)) 0) ⌝ }
 {
     interchange_all(pivots, rhs, n);
     forward_substitution(factors, rhs, n);
-    back_substitution(factors, rhs, n);
+    back_substitution(factors, rhs, n)
 }
 
 // Whether each pivot is a row.

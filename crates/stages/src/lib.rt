@@ -3,7 +3,9 @@
 ghost use mathlib.Core.Path.{_≡_};
 ghost use mathlib.Core.Bool.{cond};
 ghost use Prim.Native.Nat.{_+_, _*_, _≤_, _<_};
+ghost use mathlib.Core.List.{List};
 ghost use lib.Dec.{eqb};
+ghost use lib.Ieee.{Float};
 ghost use lib.ListN.{length, set};
 ghost use Rattle.float.specs.Operators.{_⊕_, _⊖_, _⊗_, _⊘_, 𝟎, 𝟏};
 ghost use Rattle.vector.specs.Lists.{el, table};
@@ -140,13 +142,21 @@ fn put_four(work: &mut [f64], at: usize, a: f64, b: f64, c: f64, d: f64)
     work[at + 3] = d;
 }
 
-// Stores four components of a solution from k on, and c times them in the stage.
-fn store_four(work: &mut [f64], solution: &[f64], rhs: usize, stage: usize, k: usize, c: f64)
-    requires { ⌜ (k + 4 ≤ length (now solution)) × (rhs + k + 4 ≤ length (now work)) × (stage + k + 4 ≤ length (now work)) ⌝ }
+// Stores four components of a solution from k on, the first of which is handed over, and c times them in
+// the stage.
+fn store_four(
+    work: &mut [f64],
+    solution: &[f64],
+    x0: f64,
+    rhs: usize,
+    stage: usize,
+    k: usize,
+    c: f64,
+)
+    requires { ⌜ (k + 4 ≤ length (now solution)) × (rhs + k + 4 ≤ length (now work)) × (stage + k + 4 ≤ length (now work)) × (x0 ≡ el (now solution) k) ⌝ }
     ensures { λ _. ⌜ now (work .exit)
         ≡ puts (puts (now (work .entry)) (rhs + k) (λ j. el (now (solution .entry)) (k + j)) 4) (stage + k) (λ j. c ⊗ el (now (solution .entry)) (k + j)) 4 ⌝ }
 {
-    let x0 = solution[k];
     let x1 = solution[k + 1];
     let x2 = solution[k + 2];
     let x3 = solution[k + 3];
@@ -168,18 +178,48 @@ fn store_remainder(work: &mut [f64], solution: &[f64], rhs: usize, stage: usize,
     }
 }
 
-// Stores a solution, and c times it as the stage at `stage`. Four at a time take wide loads
-// and stores.
-fn store_stage(work: &mut [f64], solution: &[f64], rhs: usize, stage: usize, n: usize, c: f64)
-    requires { ⌜ (length (now solution) ≡ n) × (rhs + n ≤ stage) × (stage + n ≤ length (now work)) ⌝ }
-    ensures { λ _. ⌜ now (work .exit) ≡ puts (puts (now (work .entry)) rhs (el (now (solution .entry))) n) stage (λ k. c ⊗ el (now (solution .entry)) k) n ⌝ }
+// Stores a solution from k on, and c times it as the stage at `stage`; what is before k is stored. Four at
+// a time take wide loads and stores.
+fn store_from(
+    work: &mut [f64],
+    solution: &[f64],
+    rhs: usize,
+    stage: usize,
+    n: usize,
+    c: f64,
+    mut k: usize,
+)
+    requires { ⌜ (length (now solution) ≡ n) × (rhs + n ≤ stage) × (stage + n ≤ length (now work)) × (k ≤ n) ⌝ }
+    ensures { λ _. ⌜ ((w : List Float) → length w ≡ length (now (work .entry)) → now (work .entry) ≡ puts (puts w rhs (el (now (solution .entry))) k) stage (λ j. c ⊗ el (now (solution .entry)) j) k
+        → now (work .exit) ≡ puts (puts w rhs (el (now (solution .entry))) n) stage (λ j. c ⊗ el (now (solution .entry)) j) n) ⌝ }
 {
-    let mut k = 0;
     while k + 3 < n {
-        store_four(work, solution, rhs, stage, k, c);
+        let x0 = solution[k];
+        store_four(work, solution, x0, rhs, stage, k, c);
         k += 4;
     }
     store_remainder(work, &solution[k..], rhs + k, stage + k, n - k, c);
+}
+
+// Stores a solution, whose first component is handed over, and c times it as the stage at `stage`.
+fn store_stage(
+    work: &mut [f64],
+    solution: &[f64],
+    first: f64,
+    rhs: usize,
+    stage: usize,
+    n: usize,
+    c: f64,
+)
+    requires { ⌜ (length (now solution) ≡ n) × (rhs + n ≤ stage) × (stage + n ≤ length (now work)) × (first ≡ el (now solution) 0) ⌝ }
+    ensures { λ _. ⌜ now (work .exit) ≡ puts (puts (now (work .entry)) rhs (el (now (solution .entry))) n) stage (λ k. c ⊗ el (now (solution .entry)) k) n ⌝ }
+{
+    if n < 4 {
+        store_remainder(work, solution, rhs, stage, n, c);
+        return;
+    }
+    store_four(work, solution, first, rhs, stage, 0, c);
+    store_from(work, solution, rhs, stage, n, c, 4);
 }
 
 // The system is solved in rhs, apart from the work that holds its factors.
@@ -200,8 +240,8 @@ fn solve_stage(
     let stages = factors + n * n;
     let gamma = tableau::gamma(file);
     right_hand_side(rhs, work, file, n, s, i, step);
-    linear::solve_factorized(&work[factors..stages], pivots, rhs, n);
-    store_stage(work, rhs, 7 * n, stages + i * n, n, step * gamma);
+    let first = linear::solve_factorized(&work[factors..stages], pivots, rhs, n);
+    store_stage(work, rhs, first, 7 * n, stages + i * n, n, step * gamma);
 }
 
 // Stage i, from its derivative: its right-hand side is solved and scaled.

@@ -97,7 +97,7 @@ returns c =
     let s = c .before .before .before .before .args in
     let e : 0 ≡ l .below = omega arith in
     let d : s .n - l .below ≡ s .n = omega arith in
-    λ y f h. ap (λ (z : ℕ). drop z (l .x)) e ∙ l .inv .2 y f h ∙ ap (backSubstitution (s .n) (upper (s .n) (now (s .factors))) y) d
+    (λ y f h. ap (λ (z : ℕ). drop z (l .x)) e ∙ l .inv .2 y f h ∙ ap (backSubstitution (s .n) (upper (s .n) (now (s .factors))) y) d, l .inv .4 ∙ ap (el (l .x)) (sym e))
 
 pub back-rows-spec : {M : Type 1} → statement M
 back-rows-spec =

@@ -54,10 +54,12 @@ same-length c = c .before .before .back-rows .kept .1 .0 ∙ simp length-set
 returns : tie.Need-returns
 returns c =
     let s = c .before .before .before .before .before .before .before .before .args in
-    let x = now (s .x) in
-    c .before .before .back-rows .ensures (el x)
-    (back-last (now (s .factors)) x (s .n) (s .n - 1) (omega arith) (omega arith))
-    (λ j h. getD-set-other x (s .n - 1) j _ nan (λ q. omega arith))
+    let x = now (s .x) in (
+      c .before .before .back-rows .ensures .0 (el x)
+          (back-last (now (s .factors)) x (s .n) (s .n - 1) (omega arith) (omega arith))
+          (λ j h. getD-set-other x (s .n - 1) j _ nan (λ q. omega arith)),
+      c .before .before .back-rows .ensures .1,
+    )
 
 pub back-substitution-spec : {M : Type 1} → statement M
 back-substitution-spec =

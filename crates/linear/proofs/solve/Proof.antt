@@ -42,7 +42,7 @@ returns-4 : tie.Need-returns-4
 returns-4 c =
     let s = c .before .before .before .before .before .before .before .before .before .before .before .before .args in
     is-solved (s .n) (now (s .factors)) (now (s .pivots)) (now (s .rhs)) (told-yes (c .before .before .before .before .before .before .before .before .is-square .ensures) (c .before .before .before .before .before .before .before .if1 .left)) (c .before .before .before .before .before .before .if2 .left) (c .before .before .before .before .before .all-below .ensures)
-    (not-false (c .before .before .before .before .before .all-below .result) (c .before .before .before .before .if3 .left)) (c .before .before .solve-factorized .ensures)
+    (not-false (c .before .before .before .before .before .all-below .result) (c .before .before .before .before .if3 .left)) (c .before .before .solve-factorized .ensures .0)
 
 pub solve-spec : {M : Type 1} → statement M
 solve-spec =

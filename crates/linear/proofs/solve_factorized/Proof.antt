@@ -20,7 +20,7 @@ same-length c = search needs
 returns : tie.Need-returns
 returns c =
     let s = c .before .before .before .before .before .before .before .before .before .before .before .before .before .before .before .args in
-    solution-is (s .n) (now (s .factors)) (now (s .pivots)) (now (s .rhs)) (c .before .before .before .before .before .before .before .before .before .before .interchange-all .ensures) (c .before .before .before .before .before .before .forward-substitution .ensures) (c .before .before .back-substitution .ensures)
+    (solution-is (s .n) (now (s .factors)) (now (s .pivots)) (now (s .rhs)) (c .before .before .before .before .before .before .before .before .before .before .interchange-all .ensures) (c .before .before .before .before .before .before .forward-substitution .ensures) (c .before .before .back-substitution .ensures .0), c .before .before .back-substitution .ensures .1)
 
 pub solve-factorized-spec : {M : Type 1} → statement M
 solve-factorized-spec =

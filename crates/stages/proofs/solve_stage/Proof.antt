@@ -70,7 +70,7 @@ add-store-stage : tie.Need-add-store-stage
 add-store-stage c = search needs
 
 store-stage-requires : tie.Need-store-stage-requires
-store-stage-requires c κs = search needs
+store-stage-requires c κs = (search needs, search needs, search needs, c .before .before .before .before .solve-factorized .ensures .1)
 
 same-length : tie.Need-same-length
 same-length c = search needs
@@ -86,7 +86,7 @@ returns c =
     let k : 8 * n + n * n + n * n - (8 * n + n * n) ≡ n * n = omega arith in
     let at : 8 * n + n * n + n * n + a .i * n ≡ stageAt n (a .i) = omega arith in
     solved-chain n (a .s) (tableauOf (now (a .file))) (a .i) (a .step) (now (a .work)) (now (a .pivots)) (omega arith) k at
-    (ap (λ (z : Float). a .step ⊗ z) (c .before .before .before .before .before .before .before .before .before .before .before .before .before .before .before .before .gamma .ensures)) (c .before .before .before .before .before .before .before .before .before .before .before .before .before .right-hand-side .ensures) (c .before .before .before .before .before .before .before .solve-factorized .ensures) (c .before .before .store-stage .ensures)
+    (ap (λ (z : Float). a .step ⊗ z) (c .before .before .before .before .before .before .before .before .before .before .before .before .before .before .before .before .gamma .ensures)) (c .before .before .before .before .before .before .before .before .before .before .before .before .before .right-hand-side .ensures) (c .before .before .before .before .before .before .before .solve-factorized .ensures .0) (c .before .before .store-stage .ensures)
 
 pub solve-stage-spec : {M : Type 1} → statement M
 solve-stage-spec =

@@ -1,7 +1,7 @@
 -- `stages::store_four` meets its contract. Assumes nothing.
 use Prim.Native.Nat.{_+_}
 use native.Mathlib.Nat.{add-zero}
-use mathlib.Core.Path.{sym, ap, _∙_}
+use mathlib.Core.Path.{_≡_, sym, ap, _∙_}
 use mathlib.Core.List.{List}
 use denote.Ref.{now}
 use borrow.Author.Needs.{needs}
@@ -13,12 +13,6 @@ use Rattle.vector.specs.Parts.{puts}
 use Rattle.vector.proofs.Stores.{four-puts}
 use Rattle.stages.proofs.store_four.Statement.{statement}
 use Rattle.stages.proofs.store_four.Tie as tie
-
-mul-x0 : tie.Need-mul-x0
-mul-x0 c = search needs
-
-shared-slice-read-x0 : tie.Need-shared-slice-read-x0
-shared-slice-read-x0 c = search needs
 
 add-x1 : tie.Need-add-x1
 add-x1 c = search needs
@@ -64,14 +58,15 @@ same-length c = search needs
 
 returns : tie.Need-returns
 returns c =
-    let a = c .before .before .before .before .before .before .before .before .before .before .before .before .before .before .args in
-    let w = now (a .work) in
-    let x = now (a .solution) in
+    let a = c .before .before .before .before .before .before .before .before .before .before .before .before .before .args in
+    let w : List Float = now (a .work) in
+    let x : List Float = now (a .solution) in
+    let x0 : Float = a .x0 in
     let k = a .k in
     let at = a .stage + k in
-    let first = ap (el x) (sym (add-zero k)) in
+    let first : x0 ≡ el x (k + 0) = c .before .before .before .before .before .before .before .before .before .before .before .before .before .pre .3 ∙ ap (el x) (sym (add-zero k)) in
     c .before .before .put-four2 .ensures
-    ∙ ap (λ (z : List Float). set (set (set (set z at (a .c ⊗ el x k)) (at + 1) (a .c ⊗ el x (k + 1))) (at + 2) (a .c ⊗ el x (k + 2))) (at + 3) (a .c ⊗ el x (k + 3)))
+    ∙ ap (λ (z : List Float). set (set (set (set z at (a .c ⊗ x0)) (at + 1) (a .c ⊗ el x (k + 1))) (at + 2) (a .c ⊗ el x (k + 2))) (at + 3) (a .c ⊗ el x (k + 3)))
     (c .before .before .before .before .before .before .put-four .ensures ∙ four-puts w (a .rhs + k) (λ j. el x (k + j)) first)
     ∙ four-puts (puts w (a .rhs + k) (λ j. el x (k + j)) 4) at (λ j. a .c ⊗ el x (k + j)) (ap (λ (z : Float). a .c ⊗ z) first)
 
@@ -79,8 +74,6 @@ pub store-four-spec : {M : Type 1} → statement M
 store-four-spec =
     tie.close
     (tie.spec
-    mul-x0
-    shared-slice-read-x0
     add-x1
     mul-x1
     shared-slice-read-x1

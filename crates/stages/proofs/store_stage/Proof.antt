@@ -1,110 +1,40 @@
--- `stages::store_stage` meets its contract: both vectors are written side by side. Assumes nothing.
-use Prim.Native.Nat.{ℕ, _+_, _-_, _≤_}
+-- `stages::store_stage` meets its contract: the first four, then the rest. Assumes nothing.
+use Prim.Native.Nat.{_+_}
 use native.Mathlib.Omega.{arith}
-use mathlib.Core.Path.{_≡_, refl, ap, _∙_}
+use mathlib.Core.Path.{refl, sym}
 use denote.Ref.{now}
 use borrow.Author.Needs.{needs}
-use lib.ListN.{length}
-use lib.Ieee.{nan}
-use Rattle.float.specs.Operators.{_⊗_}
 use Rattle.vector.specs.Lists.{el}
-use Rattle.vector.specs.Parts.{part, puts}
-use Rattle.vector.proofs.Parts.{part-at}
+use Rattle.vector.specs.Parts.{puts}
 use Rattle.stages.proofs.Steps.{stored-join}
 use Rattle.stages.proofs.store_stage.Statement.{statement}
 use Rattle.stages.proofs.store_stage.Tie as tie
 
-abbrev Inv-loop : tie.InvT-loop
-Inv-loop work₀ solution rhs stage n c k₀ work k =
-    (k ≤ n) × (length work ≡ length work₀) × (work ≡ puts (puts work₀ rhs (el solution) k) stage (λ z. c ⊗ el solution z) k)
-
-abbrev μ-loop : tie.MeasureT-loop
-μ-loop work₀ solution rhs stage n c k₀ work k = n - k
-
-loop-holds : tie.Need-loop-holds Inv-loop μ-loop
-unfolding puts
-loop-holds c = (search needs, search needs, refl)
-
-add-loop : tie.Need-add-loop Inv-loop μ-loop
-add-loop c = search needs
-
-store-four-requires : tie.Need-store-four-requires Inv-loop μ-loop
-store-four-requires c κs = search needs
-
-add-k : tie.Need-add-k Inv-loop μ-loop
-add-k c = search needs
-
-loop-less : tie.Need-loop-less Inv-loop μ-loop
-loop-less c = search needs
-
-loop-again : tie.Need-loop-again Inv-loop μ-loop
-loop-again c =
-    let l = c .before .before .before .before .before .loop in
-    let a = c .before .before .before .before .before .before .before .before .args in
-    let x = now (a .solution) in (
-      search needs,
-      c .before .before .store-four .kept .0 ∙ l .inv .1,
-      stored-join (now (a .work)) (a .rhs) (a .stage) (el x) (a .c) (l .k) 4 (omega arith) (λ j. el x (l .k + j)) (λ j h. refl) (l .inv .2) (c .before .before .store-four .ensures),
-    )
-
-mul-store-remainder : tie.Need-mul-store-remainder Inv-loop μ-loop
-mul-store-remainder c = search needs
-
-sub-store-remainder : tie.Need-sub-store-remainder Inv-loop μ-loop
-sub-store-remainder c = search needs
-
-part-store-remainder-start : tie.Need-part-store-remainder-start Inv-loop μ-loop
-part-store-remainder-start c = search needs
-
-part-store-remainder-end : tie.Need-part-store-remainder-end Inv-loop μ-loop
-part-store-remainder-end c = search needs
-
-add-store-remainder : tie.Need-add-store-remainder Inv-loop μ-loop
-add-store-remainder c = search needs
-
-add-store-remainder-2 : tie.Need-add-store-remainder-2 Inv-loop μ-loop
-add-store-remainder-2 c = search needs
-
-sub-store-remainder-2 : tie.Need-sub-store-remainder-2 Inv-loop μ-loop
-sub-store-remainder-2 c = search needs
-
-store-remainder-requires : tie.Need-store-remainder-requires Inv-loop μ-loop
+store-remainder-requires : tie.Need-store-remainder-requires
 store-remainder-requires c κs = search needs
 
-same-length : tie.Need-same-length Inv-loop μ-loop
+same-length : tie.Need-same-length
 same-length c = search needs
 
-returns : tie.Need-returns Inv-loop μ-loop
-returns c =
-    let l = c .before .before .before .before .before .before .loop in
-    let a = c .before .before .before .before .before .before .before .before .before .args in
-    let w = now (a .work) in
+returns : tie.Need-returns
+returns c = c .before .before .store-remainder .ensures
+
+store-four-requires : tie.Need-store-four-requires
+store-four-requires c κs = search needs
+
+store-from-requires : tie.Need-store-from-requires
+store-from-requires c κs = search needs
+
+same-length-2 : tie.Need-same-length-2
+same-length-2 c = search needs
+
+returns-2 : tie.Need-returns-2
+unfolding puts
+returns-2 c =
+    let a = c .before .before .before .before .before .before .before .before .before .before .before .args in
     let x = now (a .solution) in
-    let m = a .n - l .k in
-    let e : l .k + m ≡ a .n = omega arith in
-    stored-join w (a .rhs) (a .stage) (el x) (a .c) (l .k) m (omega arith) (el (part (l .k) (length x - l .k) x)) (λ j h. part-at nan (l .k) (length x - l .k) x j (omega arith)) (l .inv .2)
-    (c .before .before .store-remainder .ensures)
-    ∙ ap (λ (k : ℕ). puts (puts w (a .rhs) (el x) k) (a .stage) (λ z. a .c ⊗ el x z) k) e
+    c .before .before .store-from .ensures (now (a .work)) (sym (c .before .before .before .before .before .before .store-four .kept .0))
+    (stored-join (now (a .work)) (a .rhs) (a .stage) (el x) (a .c) 0 4 (omega arith) (λ j. el x (0 + j)) (λ j h. refl) refl (c .before .before .before .before .before .before .store-four .ensures))
 
 pub store-stage-spec : {M : Type 1} → statement M
-store-stage-spec =
-    tie.close
-    (tie.spec
-    Inv-loop
-    μ-loop
-    loop-holds
-    add-loop
-    store-four-requires
-    add-k
-    loop-less
-    loop-again
-    mul-store-remainder
-    sub-store-remainder
-    part-store-remainder-start
-    part-store-remainder-end
-    add-store-remainder
-    add-store-remainder-2
-    sub-store-remainder-2
-    store-remainder-requires
-    same-length
-    returns)
+store-stage-spec = tie.close (tie.spec store-remainder-requires same-length returns store-four-requires store-from-requires same-length-2 returns-2)
