@@ -2,23 +2,22 @@
 use Prim.Native.Nat.{ℕ}
 use native.Mathlib.Omega.{arith}
 use mathlib.Core.Path.{_≡_, refl, sym, ap, _∙_}
-use mathlib.Core.Bool.{Bool, true, false, cond, not}
+use mathlib.Core.Bool.{Bool, true, false, cond}
 use mathlib.Core.List.{List}
-use lib.Dec.{T, eqb}
+use lib.Dec.{eqb}
 use lib.Ieee.{Float}
 use Rattle.stepping.specs.Refusals.{Test, firstOf, unlessRefused}
 use Rattle.refusals.specs.declared.Fixed.{Fixed}
 use Rattle.refusals.specs.declared.Progress.{Progress}
-use Rattle.rosenbrock.specs.declared.RosenbrockStepper.{RosenbrockStepper}
 use Rattle.rosenbrock.specs.declared.Answer.{Answer}
 use Rattle.rosenbrock.specs.declared.Answer.the-variants.{Asked, Shown, Done, Refused}
 use Rattle.rosenbrock.specs.declared.Outcome.{Outcome}
 use Rattle.refusals.specs.Answers as Answers
 use Rattle.refusals.specs.Answers.{Lent, refused, done}
 use Rattle.refusals.specs.Tests.{decisionTests}
-use Rattle.rosenbrock.specs.Calls.{Out, refusal, guarded, rejected, rejectOf}
+use Rattle.rosenbrock.specs.Calls.{Out, refusal, guarded, accepted, acceptOf, rejected, rejectOf}
 use Rattle.rosenbrock.specs.Stepper.{by-value, in-place, accept, reject, called, System, needed, trimmed, Next, result, stepped}
-use Rattle.rosenbrock.specs.Contracts.{systemOf, answerBy, nextOf, acceptedRecord, acceptedBy}
+use Rattle.rosenbrock.specs.Contracts.{answerBy, nextOf}
 use Rattle.in_place.specs.Numbers.{numberOf}
 use Rattle.in_place.specs.Landing.{landed}
 
@@ -57,32 +56,10 @@ module _ (o : Outcome) {number : ℕ} (state work : List Float) (pivots : List �
       let a = ap told h ∙ same-told (o .answer) _ _ _ k (eqb k 0) refl (ap (λ (q : Next). q .answer) e ∙ t) ∙ sym t in
       λ i. record { system = ap (λ (q : Next). q .system) e i; answer = a i }
 
+  pub accept-landed : (y : System) → nextOf o state work pivots ≡ stepped (accept by-value) y → number ≡ numberOf (o .answer) → landed (o .stepper) number state work pivots ≡ stepped (accept in-place) y
+  unfolding stepped result called acceptOf accepted
+  accept-landed y e h = landed-at (stepped (accept by-value) y) (firstOf (tests y)) (guarded-tells (tests y) (y .stepper .progress) (memory y) (accepted (y .stepper .fixed) (y .stepper .progress) (memory y)) refl) e h
+
   pub reject-landed : (y : System) → nextOf o state work pivots ≡ stepped (reject by-value) y → number ≡ numberOf (o .answer) → landed (o .stepper) number state work pivots ≡ stepped (reject in-place) y
   unfolding stepped result called rejectOf rejected
   reject-landed y e h = landed-at (stepped (reject by-value) y) (firstOf (tests y)) (guarded-tells (tests y) (y .stepper .progress) (memory y) (rejected (y .stepper .progress) (memory y)) refl) e h
-
--- an accept by its number: other than 0 it leaves the record
-module _ (y : RosenbrockStepper) (state work : List Float) (pivots : List ℕ) where
-  abbrev by : Bool → ℕ → Outcome
-  by b k = cond b (record { stepper = acceptedRecord y; answer = Done }) (record { stepper = y; answer = Refused k })
-
-  is-left : (b : Bool) (k : ℕ) → T (not b) → record { system = systemOf y state work pivots; answer = cond b done (refused k) } ≡ nextOf (by b k) state work pivots
-  unfolding nextOf answerBy
-  is-left false k t = refl
-
-  is-moved : (b : Bool) (k : ℕ) → T (not (not b)) → record { system = systemOf (acceptedRecord y) state work pivots; answer = cond b done (refused k) } ≡ nextOf (by b k) state work pivots
-  unfolding nextOf answerBy
-  is-moved true k t = refl
-
-  pub accept-left : (k : ℕ) {n : Next} → T (not (eqb k 0)) → nextOf (acceptedBy y k) state work pivots ≡ n → landed y k state work pivots ≡ n
-  unfolding landed acceptedBy
-  accept-left k t e = is-left (eqb k 0) k t ∙ e
-
-  pub accept-moved : (k : ℕ) {s : RosenbrockStepper} {n : Next} → T (not (not (eqb k 0))) → s ≡ acceptedRecord y → nextOf (acceptedBy y k) state work pivots ≡ n → landed s k state work pivots ≡ n
-  unfolding landed acceptedBy
-  accept-moved k t h e = ap (λ (s : RosenbrockStepper). landed s k state work pivots) h ∙ is-moved (eqb k 0) k t ∙ e
-
--- both forms are one call
-pub both-forms : (y : System) → stepped (accept by-value) y ≡ stepped (accept in-place) y
-unfolding stepped result called
-both-forms y = refl

@@ -1,2 +1,1 @@
 mod Landings
-pub mod Locals

@@ -1,6 +1,4 @@
-// accept and reject on a record that is lent. A refused accept stores nothing, and otherwise the new
-// record is a function of the old one, read where it lies; for a reject the record is copied out, decided
-// on by value, and stored back.
+// accept and reject on a record that is lent: it is copied out, decided on by value, and stored back.
 ghost use mathlib.Core.Path.{_≡_};
 ghost use Rattle.rosenbrock.specs.Stepper.{in-place, accept, reject, stepped};
 ghost use Rattle.rosenbrock.specs.Contracts.{systemOf};
@@ -27,6 +25,20 @@ fn number_of(answer: Answer) -> u32
 }
 
 // By value, with the answer as a number.
+fn accepted(stepper: RosenbrockStepper, state: &mut [f64], work: &[f64], pivots: &[usize]) -> Landed
+    ensures { λ r. ⌜ landed (r .stepper) (r .number) (now (state .exit)) (now (work .entry)) (now (pivots .entry))
+        ≡ stepped (accept in-place) (systemOf stepper (now (state .entry)) (now (work .entry)) (now (pivots .entry))) ⌝ }
+{
+    let outcome = stepper.accept(state, work, pivots);
+    let after = outcome.stepper;
+    let answer = outcome.answer;
+    let number = number_of(answer);
+    Landed {
+        stepper: after,
+        number,
+    }
+}
+
 fn rejected(stepper: RosenbrockStepper, state: &[f64], work: &[f64], pivots: &[usize]) -> Landed
     ensures { λ r. ⌜ landed (r .stepper) (r .number) (now (state .entry)) (now (work .entry)) (now (pivots .entry))
         ≡ stepped (reject in-place) (systemOf stepper (now (state .entry)) (now (work .entry)) (now (pivots .entry))) ⌝ }
@@ -50,13 +62,9 @@ pub fn accept_in_place(
     ensures { λ r. ⌜ landed (now (stepper .exit)) r (now (state .exit)) (now (work .entry)) (now (pivots .entry))
         ≡ stepped (accept in-place) (systemOf (now (stepper .entry)) (now (state .entry)) (now (work .entry)) (now (pivots .entry))) ⌝ }
 {
-    let number = stepper.accepts(state, work, pivots);
-    if number != 0 {
-        return number;
-    }
-    let after = stepper.accepted();
-    *stepper = after;
-    number
+    let landed = accepted(*stepper, state, work, pivots);
+    *stepper = landed.stepper;
+    landed.number
 }
 
 pub fn reject_in_place(

@@ -1,3 +1,3 @@
 -- Laws that the proofs cite.
 pub mod Steps
-pub mod Refusal
+pub mod Locals

@@ -7,7 +7,6 @@ use mathlib.Core.List.{List, [], _∷_, _++_}
 use lib.Ieee.{Float}
 use lib.ListN.{length, take, drop, replicate, take-append-drop}
 use lib.Seq.{take-take, length-take-le}
-use borrow.Author.Tests.{ne-eqb}
 use Rattle.float.specs.Operators.{_⊕_, 𝟎}
 use Rattle.float.specs.Counter.{saturatingIncrement}
 use Rattle.vector.specs.Lists.{el}
@@ -27,11 +26,11 @@ use Rattle.rosenbrock.specs.declared.Outcome.{Outcome}
 use Rattle.refusals.specs.Answers.{Lent, lending, refused, candidateOf}
 use Rattle.refusals.specs.Answers as Answers
 use Rattle.refusals.specs.Tests.{decisionTests, failTests, injectTests, resetTests, openTest, pendingTest, candidateTest, requestTest, lengthTest, finiteTest, lentTests}
-use Rattle.rosenbrock.specs.Calls.{Out, refusal, guarded, progressAfter, progressAccepted, accepted, acceptOf, rejected, rejectOf, failed, failOf, injected, injectOf, cleared, restarted, resetOf}
+use Rattle.rosenbrock.specs.Calls.{Out, refusal, guarded, progressAfter, accepted, acceptOf, rejected, rejectOf, failed, failOf, injected, injectOf, cleared, restarted, resetOf}
 use Rattle.phases.specs.Phases.{memoAccepted, fresh}
 use Rattle.statistics.specs.Counters.{oneMore, tallied}
 use Rattle.rosenbrock.specs.Stepper.{Call, by-value, accept, reject, fail, inject-derivative, reset, called, needed, trimmed, untrimmed, result, stepped, nextBy}
-use Rattle.rosenbrock.specs.Contracts.{systemOf, answerBy, nextOf, acceptedRecord, acceptedBy}
+use Rattle.rosenbrock.specs.Contracts.{systemOf, answerBy, nextOf}
 use Rattle.rosenbrock.proofs.Guards.{guarded-passed}
 use Rattle.rosenbrock.proofs.Readers.{untrimmed-same}
 use Rattle.rosenbrock.proofs.Memory.{puts-front, cut}
@@ -43,28 +42,7 @@ use Rattle.refusals.proofs.Passed.{inject-size, reset-passed}
 abbrev pub left : RosenbrockStepper → Progress → StepStatistics → Answer → Outcome
 left y x t a = record { stepper = record { fixed = y .fixed; progress = x; statistics = t }; answer = a }
 
--- a number other than 0 leaves the record, and 0 is an accept
-pub not-accepted : (y : RosenbrockStepper) {k : ℕ} → (k ≡ 0 → ⊥) → acceptedBy y k ≡ left y (y .progress) (y .statistics) (Refused k)
-unfolding acceptedBy
-not-accepted y {k} h = rw (ne-eqb k 0 h) refl
-
-pub is-accepted : (y : RosenbrockStepper) {k : ℕ} → k ≡ 0 → acceptedBy y k ≡ record { stepper = acceptedRecord y; answer = Done }
-unfolding acceptedBy
-is-accepted y h = rw h refl
-
--- one counter set
-abbrev one-accepted : StepStatistics → ℕ → StepStatistics
-one-accepted t count =
-    record {
-      attempts = t .attempts;
-      «rhs_evaluations» = t .«rhs_evaluations»;
-      «accepted_steps» = count;
-      «rejected_steps» = t .«rejected_steps»;
-      «jacobian_evaluations» = t .«jacobian_evaluations»;
-      factorizations = t .factorizations;
-      «linear_solves» = t .«linear_solves»;
-    }
-
+-- the record without its request, with another memo; one counter set
 abbrev moved-on : Progress → Memo → Progress
 moved-on x memo =
     record {
@@ -78,10 +56,17 @@ moved-on x memo =
       memo = memo;
     }
 
-pub record-accepted : (y : RosenbrockStepper) {memo : Memo} {count : ℕ} → memo ≡ memoAccepted (y .progress) → count ≡ saturatingIncrement (y .statistics .«accepted_steps»)
-    → record { fixed = y .fixed; progress = moved-on (y .progress) memo; statistics = one-accepted (y .statistics) count } ≡ acceptedRecord y
-unfolding tallied oneMore
-record-accepted y p r = λ i. record { fixed = y .fixed; progress = moved-on (y .progress) (p i); statistics = one-accepted (y .statistics) (r i) }
+abbrev one-accepted : StepStatistics → ℕ → StepStatistics
+one-accepted t count =
+    record {
+      attempts = t .attempts;
+      «rhs_evaluations» = t .«rhs_evaluations»;
+      «accepted_steps» = count;
+      «rejected_steps» = t .«rejected_steps»;
+      «jacobian_evaluations» = t .«jacobian_evaluations»;
+      factorizations = t .factorizations;
+      «linear_solves» = t .«linear_solves»;
+    }
 
 abbrev one-rejected : StepStatistics → ℕ → StepStatistics
 one-rejected t count =
@@ -157,9 +142,9 @@ module _ (y : RosenbrockStepper) (state work : List Float) (pivots : List ℕ) w
     decided : k ≡ firstOf (decisionTests (y .fixed) (y .progress) cut-m)
     decided = e ∙ cut (y .fixed) (y .progress) state work pivots _
 
-    pub accept-refused : (k ≡ 0 → ⊥) → nextOf (acceptedBy y k) state work pivots ≡ stepped (accept by-value) (systemOf y state work pivots)
+    pub accept-refused : (k ≡ 0 → ⊥) → nextOf (left y (y .progress) (y .statistics) (Refused k)) state work pivots ≡ stepped (accept by-value) (systemOf y state work pivots)
     unfolding result called acceptOf
-    accept-refused h = ap (λ (o : Outcome). nextOf o state work pivots) (not-accepted y h) ∙ refused-next (accept by-value) _ _ refl decided h
+    accept-refused h = refused-next (accept by-value) _ _ refl decided h
 
     pub reject-refused : (k ≡ 0 → ⊥) → nextOf (left y (y .progress) (y .statistics) (Refused k)) state work pivots ≡ stepped (reject by-value) (systemOf y state work pivots)
     unfolding result called rejectOf
@@ -175,11 +160,14 @@ module _ (y : RosenbrockStepper) (state work : List Float) (pivots : List ℕ) w
       pub candidate-long : length (take (y .fixed .n) work) ≡ y .fixed .n
       candidate-long = length-take-le (y .fixed .n) work (omega (arith, lent-work decision-shape, vectors-in (y .fixed .n) (y .fixed .s)))
 
-      pub accept-done : {s : List Float} → s ≡ take (y .fixed .n) work → nextOf (acceptedBy y 0) s work pivots ≡ stepped (accept by-value) (systemOf y state work pivots)
-      unfolding result called acceptOf accepted answerBy tallied oneMore trimmed acceptedBy
-      accept-done q =
-          (λ i. nextOf (acceptedBy y 0) ((q ∙ candidate-cut) i) work pivots)
-          ∙ left-next Done (progressAccepted (y .progress)) oneAccepted _ (kept (candidateOf (y .fixed) cut-m)) refl
+      pub accept-done : {memo : Memo} {s : List Float} {count : ℕ} → memo ≡ memoAccepted (y .progress) → s ≡ take (y .fixed .n) work
+          → count ≡ saturatingIncrement (y .statistics .«accepted_steps»)
+          → nextOf (left y (moved-on (y .progress) memo) (one-accepted (y .statistics) count) Done) s work pivots
+          ≡ stepped (accept by-value) (systemOf y state work pivots)
+      unfolding result called acceptOf accepted answerBy tallied oneMore trimmed
+      accept-done p q r =
+          (λ i. nextOf (left y (moved-on (y .progress) (p i)) (one-accepted (y .statistics) (r i)) Done) ((q ∙ candidate-cut) i) work pivots)
+          ∙ left-next Done (moved-on (y .progress) (memoAccepted (y .progress))) oneAccepted _ (kept (candidateOf (y .fixed) cut-m)) refl
           ∙ passed-next (accept by-value) _ _ refl decided z
 
       pub reject-done : {count : ℕ} → count ≡ saturatingIncrement (y .statistics .«rejected_steps»)

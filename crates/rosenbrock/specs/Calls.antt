@@ -109,24 +109,20 @@ failOf fx x m = guarded (failTests fx x m) x m (failed x m)
 
 -- ---- accept, reject
 
--- the time is the old one plus the effective step, rounded once
-abbrev pub progressAccepted : Progress → Progress
-progressAccepted x =
-    record {
-      time = x .time ⊕ x .step;
-      step = x .step;
-      end = x .end;
-      «host_jacobian» = x .«host_jacobian»;
-      «host_time_partial» = x .«host_time_partial»;
-      request = 0;
-      stage = 0;
-      memo = memoAccepted x;
-    }
-
 unfoldable pub accepted : Fixed → Progress → Lent → Out
 accepted fx x m =
     record {
-      progress = progressAccepted x;
+      progress =
+          record {
+            time = x .time ⊕ x .step;
+            step = x .step;
+            end = x .end;
+            «host_jacobian» = x .«host_jacobian»;
+            «host_time_partial» = x .«host_time_partial»;
+            request = 0;
+            stage = 0;
+            memo = memoAccepted x;
+          };
       lent = lending (candidateOf fx m) (m .work) (m .pivots);
       counted = oneAccepted;
       answer = done;

@@ -1,15 +1,14 @@
 -- What the code hands back, in the terms of the definitions: record and lent memory as a system, and the answer with what it asks or shows.
 -- Definitions only.
 use Prim.Native.Nat.{ℕ}
-use mathlib.Core.Bool.{Bool, cond}
+use mathlib.Core.Bool.{Bool}
 use mathlib.Core.List.{List}
-use lib.Dec.{eqb}
 use lib.Ieee.{Float}
 use Rattle.time_difference.specs.declared.TimeDifferencePolicy.{TimeDifferencePolicy}
 use Rattle.attempts.specs.declared.Ending.{Ending}
 use Rattle.attempts.specs.declared.Ending.the-variants.{Asks, Ends, Shows}
 use Rattle.attempts.specs.declared.Stop.{Stop}
-use Rattle.attempts.specs.Marks.{nothingCounted, oneAttempt, oneAccepted}
+use Rattle.attempts.specs.Marks.{nothingCounted, oneAttempt}
 use Rattle.attempts.specs.Calls.{stopBy, marked}
 use Rattle.refusals.specs.declared.Fixed.{Fixed}
 use Rattle.refusals.specs.declared.Progress.{Progress}
@@ -25,7 +24,7 @@ use Rattle.rosenbrock.specs.declared.Making.the-variants as making
 use Rattle.refusals.specs.Requests.{askOf, requestAfter, stageAfter}
 use Rattle.refusals.specs.Answers.{Lent, lending, Answer, refused, asked, shown, done, requestOf, viewOf}
 use Rattle.phases.specs.Phases.{opening}
-use Rattle.rosenbrock.specs.Calls.{progressAfter, progressAccepted}
+use Rattle.rosenbrock.specs.Calls.{progressAfter}
 use Rattle.statistics.specs.Counters.{tallied}
 use Rattle.rosenbrock.specs.Stepper.{System, needed, trimmed, Next, Made, not-made, made, make}
 
@@ -105,10 +104,3 @@ repliedAttempt y step jacobian partial (reply.Moved r) =
 unfoldable pub refusedBy : Reply → ℕ
 refusedBy (reply.Refused k) = k
 refusedBy (reply.Moved r) = 0
-
--- the record after an accept, and what the number of a refusal, 0 for none, makes of the record that was to be accepted
-abbrev pub acceptedRecord : RosenbrockStepper → RosenbrockStepper
-acceptedRecord y = record { fixed = y .fixed; progress = progressAccepted (y .progress); statistics = tallied oneAccepted (y .statistics) }
-
-unfoldable pub acceptedBy : RosenbrockStepper → ℕ → Outcome
-acceptedBy y k = cond (eqb k 0) (record { stepper = acceptedRecord y; answer = Done }) (record { stepper = y; answer = Refused k })

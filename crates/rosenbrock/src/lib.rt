@@ -8,7 +8,7 @@ ghost use Rattle.refusals.specs.Tests.{shapeFits};
 ghost use Rattle.refusals.specs.Answers.{lending};
 ghost use Rattle.rosenbrock.specs.Calls.{attemptBy};
 ghost use Rattle.rosenbrock.specs.Stepper.{needed, trimmed, by-value, attempt, attempt-to, supply, fail, accept, reject, inject-derivative, reset, nextBy, stepped};
-ghost use Rattle.rosenbrock.specs.Contracts.{answerAfter, outcomeAfter, systemOf, nextOf, replied, repliedAttempt, refusedBy, acceptedRecord, acceptedBy, madeBy, makingOf};
+ghost use Rattle.rosenbrock.specs.Contracts.{answerAfter, outcomeAfter, systemOf, nextOf, replied, repliedAttempt, refusedBy, madeBy, makingOf};
 use attempts::Ending;
 use attempts::Moved;
 use attempts::Stop;
@@ -397,14 +397,13 @@ impl RosenbrockStepper {
         self.replied(reply)
     }
 
-    // The tests of an accept; where they pass, the candidate becomes the state. The number of the
-    // refusal, 0 for none.
-    pub fn accepts(self, state: &mut [f64], work: &[f64], pivots: &[usize]) -> u32
-        ensures { λ r. ⌜ nextOf (acceptedBy self r) (now (state .exit)) (now (work .entry)) (now (pivots .entry))
+    pub fn accept(self, state: &mut [f64], work: &[f64], pivots: &[usize]) -> Outcome
+        ensures { λ r. ⌜ nextOf r (now (state .exit)) (now (work .entry)) (now (pivots .entry))
             ≡ stepped (accept by-value) (systemOf self (now (state .entry)) (now (work .entry)) (now (pivots .entry))) ⌝ }
     {
         let fixed = self.fixed;
-        let progress = self.progress;
+        let mut progress = self.progress;
+        let mut statistics = self.statistics;
         let n = fixed.n;
         let number = refusals::decision_refusal(
             fixed,
@@ -414,44 +413,23 @@ impl RosenbrockStepper {
             pivots.len(),
         );
         if number != 0 {
-            return number;
-        }
-        vector::copy(state, &work[..n]);
-        0
-    }
-
-    // The record after an accept that is not refused.
-    pub fn accepted(self) -> RosenbrockStepper
-        ensures { λ r. ⌜ r ≡ acceptedRecord self ⌝ }
-    {
-        let fixed = self.fixed;
-        let mut progress = self.progress;
-        let mut statistics = self.statistics;
-        let memo = phases::memo_accepted(progress);
-        progress.time = progress.time + progress.step;
-        progress.request = 0;
-        progress.stage = 0;
-        progress.memo = memo;
-        statistics.accepted_steps = float::saturating_increment(statistics.accepted_steps);
-        RosenbrockStepper {
-            fixed,
-            progress,
-            statistics,
-        }
-    }
-
-    pub fn accept(self, state: &mut [f64], work: &[f64], pivots: &[usize]) -> Outcome
-        ensures { λ r. ⌜ nextOf r (now (state .exit)) (now (work .entry)) (now (pivots .entry))
-            ≡ stepped (accept by-value) (systemOf self (now (state .entry)) (now (work .entry)) (now (pivots .entry))) ⌝ }
-    {
-        let number = self.accepts(state, work, pivots);
-        if number != 0 {
             return Outcome {
                 stepper: self,
                 answer: Answer::Refused(number),
             };
         }
-        let stepper = self.accepted();
+        let memo = phases::memo_accepted(progress);
+        vector::copy(state, &work[..n]);
+        progress.time = progress.time + progress.step;
+        progress.request = 0;
+        progress.stage = 0;
+        progress.memo = memo;
+        statistics.accepted_steps = float::saturating_increment(statistics.accepted_steps);
+        let stepper = RosenbrockStepper {
+            fixed,
+            progress,
+            statistics,
+        };
         Outcome {
             stepper,
             answer: Answer::Done,

@@ -53,8 +53,7 @@ use Rattle.rosenbrock.specs.Stepper.{attempt, stepped}
 use Rattle.rosenbrock.specs.Contracts.{systemOf, nextOf, repliedAttempt, refusedBy}
 use Rattle.in_place_host.specs.Handed.{inNumbers, handed, asNumbers}
 use Rattle.in_place_host.proofs.Steps.{attempt-left, moved-handed, refused-handed}
-use Rattle.in_place.proofs.Locals.{placed, held}
-use Rattle.in_place_host.proofs.Refusal.{refusal, refusal-is}
+use Rattle.in_place_host.proofs.Locals.{placed, held, refusal, refusal-is}
 use Rattle.rosenbrock.proofs.RosenbrockStepper as T
 use Rattle.rosenbrock.proofs.RosenbrockStepper.Laws as T′
 use Rattle.rosenbrock.proofs.Reply as P

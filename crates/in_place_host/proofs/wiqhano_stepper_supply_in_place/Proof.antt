@@ -51,8 +51,7 @@ use Rattle.rosenbrock.specs.Stepper.{supply, stepped}
 use Rattle.rosenbrock.specs.Contracts.{systemOf, nextOf, replied, refusedBy}
 use Rattle.in_place_host.specs.Handed.{inNumbers, handed, asNumbers}
 use Rattle.in_place_host.proofs.Steps.{supply-left, moved-handed, refused-handed}
-use Rattle.in_place.proofs.Locals.{placed, held}
-use Rattle.in_place_host.proofs.Refusal.{refusal, refusal-is}
+use Rattle.in_place_host.proofs.Locals.{placed, held, refusal, refusal-is}
 use Rattle.rosenbrock.proofs.RosenbrockStepper as T
 use Rattle.rosenbrock.proofs.RosenbrockStepper.Laws as T′
 use Rattle.rosenbrock.proofs.Reply as P
