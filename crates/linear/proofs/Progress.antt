@@ -71,6 +71,24 @@ module _ (n : ℕ) (a : List Float) (k : ℕ) {m : List Float} {row : ℕ} (e : 
   unfolding eliminated
   eliminated-more g = rw add-one (g ∙ ap (λ (z : ℕ). stepped n k z m) f ∙ ap (λ (z : List Float). stepped n k (pivotRow n z k) z) e)
 
+-- ---- a column's step: u says that its pivot is not above t
+module _ (n : ℕ) (t : Float) (a : List Float) (k : ℕ) {m : List Float} {row : ℕ} {u : Bool} (e : m ≡ eliminated n a k) (f : row ≡ pivotRow n m k)
+    (g : u ≡ unusable (abs (entry n m row k)) t) where
+  column-judged : u ≡ Stops n t a k
+  column-judged = g ∙ ap (λ (x : Float). unusable x t) (magnitude-is n a k e f refl)
+
+  pub column-stops : u ≡ true → unusable (pivotMagnitude n a k) t ≡ true
+  column-stops h = sym column-judged ∙ h
+
+  pub column-kept : {m' : List Float} → m' ≡ cond u m (stepped n k row m) → u ≡ true → m' ≡ eliminated n a k
+  column-kept q h = q ∙ ap (λ (z : Bool). cond z m (stepped n k row m)) h ∙ e
+
+  pub column-done : {m' : List Float} → m' ≡ cond u m (stepped n k row m) → u ≡ false → m' ≡ eliminated n a (k + 1)
+  column-done q h = eliminated-more n a k e f (q ∙ ap (λ (z : Bool). cond z m (stepped n k row m)) h)
+
+  pub column-counted : stepsDone n t a k ≡ k → u ≡ false → stepsDone n t a (k + 1) ≡ k + 1
+  column-counted q h = done-more n t a k q (sym column-judged ∙ h)
+
 -- ---- what is left, and the answer
 module _ (n : ℕ) (t : Float) (a : List Float) (p : List ℕ) (k : ℕ) {m : List Float} {q : List ℕ} (e : m ≡ eliminated n a k) (f : q ≡ puts p 0 (pivotOf n a) k) where
   left : {r : Factorization} → stepsDone n t a n ≡ k → r ≡ cond (eqb k n) Factored (Refused singular) → outcome r m q ≡ eliminationOf n t a p

@@ -4,13 +4,13 @@ ghost use mathlib.Core.Path.{_≡_};
 ghost use mathlib.Core.Bool.{cond, _&&_};
 ghost use Prim.Native.Nat.{ℕ, _+_, _*_, _-_, _<_, _≤_};
 ghost use lib.Dec.{eqb, ltb};
-ghost use lib.ListN.{length, getD, drop};
+ghost use lib.ListN.{length, getD, set, drop};
 ghost use lib.Ieee.{Float, lt};
 ghost use Rattle.float.specs.Operators.{_⊖_, _⊗_};
 ghost use Rattle.float.specs.Methods.{abs};
 ghost use Rattle.vector.specs.Lists.{el, every};
 ghost use Rattle.vector.specs.Matrices.{entry};
-ghost use Rattle.linear.specs.Elimination.{scale, threshold, unusable, pivotRow, interchange, eliminationStep, stepped};
+ghost use Rattle.linear.specs.Elimination.{largest, scale, threshold, unusable, pivotRow, interchange, eliminationStep, stepped};
 ghost use Rattle.linear.specs.Substitution.{lower, upper, exchanged, interchanges, lessProducts, forwardSubstitution, backSubstitution, solution};
 ghost use Rattle.linear.specs.Calls.{square, outcome, eliminationOf, rawOf, factorizeOf, Solvable, solved, solveOf};
 
@@ -26,6 +26,12 @@ struct Pivot {
     magnitude: f64,
 }
 
+// The row of a column's pivot, and whether the pivot is not above the threshold.
+struct Column {
+    row: usize,
+    unusable: bool,
+}
+
 // x where it is larger than m, which is no NaN: a maximum in one instruction.
 fn larger(m: f64, x: f64) -> f64
     ensures { λ r. ⌜ r ≡ cond (lt m x) x m ⌝ }
@@ -33,17 +39,28 @@ fn larger(m: f64, x: f64) -> f64
     if m < x { x } else { m }
 }
 
-// The largest magnitude of a matrix.
-fn largest_magnitude(matrix: &[f64]) -> f64
-    ensures { λ r. ⌜ r ≡ scale (now (matrix .entry)) ⌝ }
+// The largest magnitude of the first `count` entries.
+fn largest_of(matrix: &[f64], count: usize) -> f64
+    requires { ⌜ count ≤ length (now matrix) ⌝ }
+    ensures { λ r. ⌜ r ≡ largest (now (matrix .entry)) count ⌝ }
 {
     let mut scale = 0.0;
     let mut i = 0;
-    while i < matrix.len() {
+    while i < count {
         scale = larger(scale, float::abs(matrix[i]));
         i += 1;
     }
     scale
+}
+
+// The largest magnitude of a matrix. Sixteen entries take no loop: the compiler writes them out.
+fn largest_magnitude(matrix: &[f64]) -> f64
+    ensures { λ r. ⌜ r ≡ scale (now (matrix .entry)) ⌝ }
+{
+    if matrix.len() == 16 {
+        return largest_of(matrix, 16);
+    }
+    largest_of(matrix, matrix.len())
 }
 
 // What a pivot has to exceed.
@@ -190,6 +207,27 @@ fn step(matrix: &mut [f64], n: usize, k: usize, p: usize)
     eliminate(matrix, n, k);
 }
 
+// Step k with the pivot of its column, unless that is not above the threshold.
+fn column_step(matrix: &mut [f64], n: usize, k: usize, threshold: f64) -> Column
+    requires { ⌜ (n ≤ 32) × (length (now matrix) ≡ n * n) × (k < n) ⌝ }
+    ensures { λ r. ⌜ (r .row ≡ pivotRow n (now (matrix .entry)) k) × (r .unusable ≡ unusable (abs (entry n (now (matrix .entry)) (r .row) k)) threshold)
+        × (now (matrix .exit) ≡ cond (r .unusable) (now (matrix .entry)) (stepped n k (r .row) (now (matrix .entry)))) ⌝ }
+{
+    let pivot = column_pivot(matrix, n, k);
+    let row = pivot.row;
+    if unusable(pivot.magnitude, threshold) {
+        return Column {
+            row,
+            unusable: true,
+        };
+    }
+    step(matrix, n, k, row);
+    Column {
+        row,
+        unusable: false,
+    }
+}
+
 // The elimination, with pivots above the threshold.
 fn eliminate_columns(
     matrix: &mut [f64],
@@ -202,15 +240,58 @@ fn eliminate_columns(
 {
     let mut pivot_column = 0;
     while pivot_column < n {
-        let pivot = column_pivot(matrix, n, pivot_column);
-        let pivot_row = pivot.row;
-        if unusable(pivot.magnitude, threshold) {
+        let column = column_step(matrix, n, pivot_column, threshold);
+        let pivot_row = column.row;
+        if column.unusable {
             return Factorization::Refused(stepping::SINGULAR);
         }
         pivots[pivot_column] = pivot_row;
-        step(matrix, n, pivot_column, pivot_row);
         pivot_column += 1;
     }
+    Factorization::Factored
+}
+
+// Lists the rows of the first three pivots.
+fn list_three(pivots: &mut [usize], first: usize, second: usize, third: usize)
+    requires { ⌜ 3 ≤ length (now pivots) ⌝ }
+    ensures { λ _. ⌜ now (pivots .exit) ≡ set (set (set (now (pivots .entry)) 0 first) 1 second) 2 third ⌝ }
+{
+    pivots[0] = first;
+    pivots[1] = second;
+    pivots[2] = third;
+}
+
+// The elimination of four columns, each by its number, so that the compiler writes the loops out and keeps
+// the entries in registers. The pivots are stored last: for all it knows, one of them might be an entry.
+fn eliminate_four(matrix: &mut [f64], pivots: &mut [usize], threshold: f64) -> Factorization
+    requires { ⌜ (length (now matrix) ≡ 4 * 4) × (length (now pivots) ≡ 4) ⌝ }
+    ensures { λ r. ⌜ outcome r (now (matrix .exit)) (now (pivots .exit)) ≡ eliminationOf 4 threshold (now (matrix .entry)) (now (pivots .entry)) ⌝ }
+{
+    let first = column_step(matrix, 4, 0, threshold);
+    let row0 = first.row;
+    if first.unusable {
+        return Factorization::Refused(stepping::SINGULAR);
+    }
+    let second = column_step(matrix, 4, 1, threshold);
+    let row1 = second.row;
+    if second.unusable {
+        pivots[0] = row0;
+        return Factorization::Refused(stepping::SINGULAR);
+    }
+    let third = column_step(matrix, 4, 2, threshold);
+    let row2 = third.row;
+    if third.unusable {
+        pivots[0] = row0;
+        pivots[1] = row1;
+        return Factorization::Refused(stepping::SINGULAR);
+    }
+    let fourth = column_step(matrix, 4, 3, threshold);
+    let row3 = fourth.row;
+    list_three(pivots, row0, row1, row2);
+    if fourth.unusable {
+        return Factorization::Refused(stepping::SINGULAR);
+    }
+    pivots[3] = row3;
     Factorization::Factored
 }
 
@@ -224,6 +305,9 @@ pub fn factorize_raw(matrix: &mut [f64], pivots: &mut [usize], n: usize) -> Fact
         return Factorization::Refused(stepping::SINGULAR);
     }
     let singularity_threshold = threshold(matrix_scale, n);
+    if n == 4 {
+        return eliminate_four(matrix, pivots, singularity_threshold);
+    }
     eliminate_columns(matrix, pivots, n, singularity_threshold)
 }
 
@@ -356,6 +440,12 @@ pub fn solve_factorized(factors: &[f64], pivots: &[usize], rhs: &mut [f64], n: u
     requires { ⌜ Solvable n (now factors) (now pivots) (now rhs) ⌝ }
     ensures { λ r. ⌜ (now (rhs .exit) ≡ solution n (now (factors .entry)) (now (pivots .entry)) (now (rhs .entry))) × (r ≡ el (now (rhs .exit)) 0) ⌝ }
 {
+    // four unknowns by number, so that the compiler writes the loops out
+    if n == 4 {
+        interchange_all(pivots, rhs, 4);
+        forward_substitution(factors, rhs, 4);
+        return back_substitution(factors, rhs, 4);
+    }
     interchange_all(pivots, rhs, n);
     forward_substitution(factors, rhs, n);
     back_substitution(factors, rhs, n)

@@ -1,16 +1,13 @@
 -- `linear::eliminate_columns` meets its contract: all steps so far are done, and their pivots are listed. Assumes nothing.
-use Prim.Native.Nat.{_*_, _-_, _≤_, _<_}
+use Prim.Native.Nat.{_*_, _-_, _≤_}
 use native.Mathlib.Omega.{arith}
-use mathlib.Core.Path.{_≡_, sym, ap, _∙_}
+use mathlib.Core.Path.{_≡_, _∙_}
 use denote.Ref.{now}
 use borrow.Author.Needs.{needs}
 use lib.ListN.{length, length-set}
-use lib.Ieee.{Float}
-use Rattle.vector.specs.Matrices.{entry}
 use Rattle.vector.specs.Parts.{puts}
-use Rattle.linear.specs.Elimination.{unusable, eliminated, pivotOf, pivotMagnitude, stepsDone}
-use Rattle.linear.proofs.Pivoting.{search-below}
-use Rattle.linear.proofs.Progress.{none-done, done-more, none-eliminated, none-put, put-more, row-is, magnitude-is, eliminated-more, left-singular, left-factored}
+use Rattle.linear.specs.Elimination.{eliminated, pivotOf, stepsDone}
+use Rattle.linear.proofs.Progress.{none-done, none-eliminated, none-put, put-more, row-is, column-stops, column-kept, column-done, column-counted, left-singular, left-factored}
 use Rattle.linear.proofs.eliminate_columns.Statement.{statement}
 use Rattle.linear.proofs.eliminate_columns.Tie as tie
 
@@ -22,31 +19,13 @@ Inv-loop matrix₀ pivots₀ n threshold pivot-column₀ matrix pivots pivot-col
 abbrev μ-loop : tie.MeasureT-loop
 μ-loop matrix₀ pivots₀ n threshold pivot-column₀ matrix pivots pivot-column = n - pivot-column
 
-pivot-small : (c : tie.After-column-pivot Inv-loop μ-loop) → c .column-pivot .result .row < c .before .before .before .before .before .before .args .n
-pivot-small c =
-    let l = c .before .before .before .loop in
-    let s = c .before .before .before .before .before .before .args in
-    omega (arith, c .column-pivot .ensures .0, search-below (entry (s .n) (l .matrix)) (l .pivot-column) (s .n) (s .n) (omega arith) (omega arith))
-
-judged : (c : tie.After-unusable Inv-loop μ-loop)
-    → c .unusable .result ≡ unusable (pivotMagnitude (c .before .before .before .before .before .before .before .args .n) (now (c .before .before .before .before .before .before .before .args .matrix)) (c .before .before .before .before .loop .pivot-column)) (c .before .before .before .before .before .before .before .args .threshold)
-judged c =
-    let l = c .before .before .before .before .loop in
-    let s = c .before .before .before .before .before .before .before .args in
-    let p = c .before .column-pivot in
-    c .unusable .ensures
-    ∙ ap (λ (x : Float). unusable x (s .threshold)) (magnitude-is (s .n) (now (s .matrix)) (l .pivot-column) (l .inv .3) (p .ensures .0) (p .ensures .1))
-
 loop-holds : tie.Need-loop-holds Inv-loop μ-loop
 loop-holds c =
     let s = c .before .before .args in
     (search needs, search needs, search needs, none-eliminated (s .n) (now (s .matrix)), none-done (s .n) (s .threshold) (now (s .matrix)), none-put (now (s .pivots)) (pivotOf (s .n) (now (s .matrix))))
 
-column-pivot-requires : tie.Need-column-pivot-requires Inv-loop μ-loop
-column-pivot-requires c κs = search needs
-
-unusable-requires : tie.Need-unusable-requires Inv-loop μ-loop
-unusable-requires c κs = search needs
+column-step-requires : tie.Need-column-step-requires Inv-loop μ-loop
+column-step-requires c κs = search needs
 
 same-length : tie.Need-same-length Inv-loop μ-loop
 same-length c = search needs
@@ -56,19 +35,19 @@ same-length-2 c = search needs
 
 returns : tie.Need-returns Inv-loop μ-loop
 returns c =
-    let l = c .before .before .before .before .before .loop in
-    let s = c .before .before .before .before .before .before .before .before .args in
-    left-singular (s .n) (s .threshold) (now (s .matrix)) (now (s .pivots)) (l .pivot-column) (l .inv .3) (l .inv .5) (l .inv .4)
-    (sym (judged (c .before)) ∙ c .if1 .taken) (omega arith)
+    let l = c .before .before .before .before .before .before .loop in
+    let s = c .before .before .before .before .before .before .before .before .before .args in
+    let w = c .before .before .before .column-step in
+    left-singular (s .n) (s .threshold) (now (s .matrix)) (now (s .pivots)) (l .pivot-column)
+    (column-kept (s .n) (s .threshold) (now (s .matrix)) (l .pivot-column) (l .inv .3) (w .ensures .0) (w .ensures .1) (w .ensures .2) (c .if1 .taken))
+    (l .inv .5) (l .inv .4)
+    (column-stops (s .n) (s .threshold) (now (s .matrix)) (l .pivot-column) (l .inv .3) (w .ensures .0) (w .ensures .1) (c .if1 .taken)) (omega arith)
 
 mul-pivots : tie.Need-mul-pivots Inv-loop μ-loop
 mul-pivots c = search needs
 
 slice-write-pivots : tie.Need-slice-write-pivots Inv-loop μ-loop
 slice-write-pivots c = omega arith
-
-step-requires : tie.Need-step-requires Inv-loop μ-loop
-step-requires c κs = omega (arith, pivot-small (c .before .before .before))
 
 add-pivot-column : tie.Need-add-pivot-column Inv-loop μ-loop
 add-pivot-column c = search needs
@@ -78,18 +57,17 @@ loop-less c = search needs
 
 loop-again : tie.Need-loop-again Inv-loop μ-loop
 loop-again c =
-    let l = c .before .before .before .before .before .before .before .before .before .loop in
-    let s = c .before .before .before .before .before .before .before .before .before .before .before .before .args in
+    let l = c .before .before .before .before .before .before .loop in
+    let s = c .before .before .before .before .before .before .before .before .before .args in
     let k = l .pivot-column in
     let a = now (s .matrix) in
-    let w = c .before .before .step in
-    let p = c .before .before .before .before .before .before .column-pivot in (
+    let w = c .before .before .before .column-step in (
       search needs,
       w .kept .0 ∙ l .inv .1,
       simp length-set (l .inv .2),
-      eliminated-more (s .n) a k (l .inv .3) (p .ensures .0) (w .ensures),
-      done-more (s .n) (s .threshold) a k (l .inv .4) (sym (judged (c .before .before .before .before .before)) ∙ c .before .before .before .before .if1 .left),
-      put-more (now (s .pivots)) (pivotOf (s .n) a) k (l .inv .5) (row-is (s .n) a k (l .inv .3) (p .ensures .0)),
+      column-done (s .n) (s .threshold) a k (l .inv .3) (w .ensures .0) (w .ensures .1) (w .ensures .2) (c .if1 .left),
+      column-counted (s .n) (s .threshold) a k (l .inv .3) (w .ensures .0) (w .ensures .1) (l .inv .4) (c .if1 .left),
+      put-more (now (s .pivots)) (pivotOf (s .n) a) k (l .inv .5) (row-is (s .n) a k (l .inv .3) (w .ensures .0)),
     )
 
 same-length-3 : tie.Need-same-length-3 Inv-loop μ-loop
@@ -111,14 +89,12 @@ eliminate-columns-spec =
     Inv-loop
     μ-loop
     loop-holds
-    column-pivot-requires
-    unusable-requires
+    column-step-requires
     same-length
     same-length-2
     returns
     mul-pivots
     slice-write-pivots
-    step-requires
     add-pivot-column
     loop-less
     loop-again
