@@ -7,7 +7,6 @@ pub mod reading;
 use crate::{Failure, TimeDifferencePolicy, tableau};
 use calls::{Answer, Memory, Modes, Record, Told};
 use std::fmt;
-use std::ops::Range;
 
 pub use calls::{Ask, StepStatistics};
 
@@ -89,8 +88,47 @@ pub struct RosenbrockStepper {
     file: Vec<u8>,
     record: Record,
     memory: Memory,
-    /// What the host's functions write: at `written`.
-    values: Vec<f64>,
+    written: Written,
+}
+
+/// What the host's functions write. As in the original each of these has a place of its own.
+#[derive(Clone, Debug)]
+struct Written {
+    derivative: Vec<f64>,
+    jacobian: Vec<f64>,
+    /// Its first probe's derivative too.
+    time_partial: Vec<f64>,
+    /// The derivative at another probe.
+    probe: Vec<f64>,
+    /// The derivatives at the stages, one after the other.
+    stages: Vec<f64>,
+}
+
+impl Written {
+    fn new(n: usize, s: usize) -> Self {
+        Self {
+            derivative: vec![0.0; n],
+            jacobian: vec![0.0; n * n],
+            time_partial: vec![0.0; n],
+            probe: vec![0.0; n],
+            stages: vec![0.0; s * n],
+        }
+    }
+
+    /// Where what is asked for is written.
+    #[inline(always)]
+    fn place(&mut self, ask: Ask) -> &mut [f64] {
+        match ask {
+            Ask::Derivative => &mut self.derivative,
+            Ask::Jacobian => &mut self.jacobian,
+            Ask::TimePartial | Ask::FirstProbe => &mut self.time_partial,
+            Ask::SecondProbe | Ask::Column(_) => &mut self.probe,
+            Ask::Stage(i) => {
+                let n = self.derivative.len();
+                &mut self.stages[i * n..(i + 1) * n]
+            }
+        }
+    }
 }
 
 impl RosenbrockStepper {
@@ -111,7 +149,7 @@ impl RosenbrockStepper {
         Ok(Self {
             file: tableau.to_vec(),
             record,
-            values: vec![0.0; written(&record, Ask::Jacobian).end],
+            written: Written::new(record.fixed.n, record.fixed.s),
             memory,
         })
     }
@@ -196,7 +234,7 @@ impl RosenbrockStepper {
             let stepper = &mut *open.0;
             let ask = Ask::of(&stepper.record).expect("a request");
             let (time, state) = direct::asked_at(&stepper.record, &stepper.memory, ask);
-            let values = &mut stepper.values[written(&stepper.record, ask)];
+            let values = stepper.written.place(ask);
             let told = match ask {
                 Ask::Jacobian => jacobian.as_mut().expect("a Jacobian")(time, state, values),
                 Ask::TimePartial => time_partial.as_mut().expect("a partial")(time, state, values),
@@ -229,25 +267,9 @@ impl RosenbrockStepper {
     /// Starts again, with as many components.
     pub fn reset(&mut self, time: f64, state: &[f64]) -> Result<(), Failure> {
         calls::reset(&mut self.record, time, state, self.memory.lend())?;
-        self.values.fill(0.0);
+        self.written = Written::new(self.record.fixed.n, self.record.fixed.s);
         Ok(())
     }
-}
-
-/// Where the host's function writes what is asked for. As in the original each of these has a place of
-/// its own: the derivative, the time partial with its first probe, the other probes, the stages, the
-/// Jacobian.
-#[inline(always)]
-fn written(record: &Record, ask: Ask) -> Range<usize> {
-    let (n, s) = (record.fixed.n, record.fixed.s);
-    let at = match ask {
-        Ask::Derivative => 0,
-        Ask::TimePartial | Ask::FirstProbe => n,
-        Ask::SecondProbe | Ask::Column(_) => 2 * n,
-        Ask::Stage(i) => (3 + i) * n,
-        Ask::Jacobian => return (3 + s) * n..(3 + s + n) * n,
-    };
-    at..at + n
 }
 
 fn modes<E>(

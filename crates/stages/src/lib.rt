@@ -10,7 +10,7 @@ ghost use lib.ListN.{length, set};
 ghost use Rattle.float.specs.Operators.{_⊕_, _⊖_, _⊗_, _⊘_, 𝟎, 𝟏};
 ghost use Rattle.vector.specs.Lists.{el, table};
 ghost use Rattle.vector.specs.Parts.{puts};
-ghost use Rattle.tableau.specs.Tableau.{couplingOf};
+ghost use Rattle.tableau.specs.Tableau.{Tableau, gammaOf, couplingOf};
 ghost use Rattle.tableau.specs.File.{tableauOf};
 ghost use Rattle.stages.specs.Layout.{Room, Stage, PivotRows, stageStateAt, timePartialAt, rhsStageAt};
 ghost use Rattle.stages.specs.Method.{plusMultiple, plusMultiples, stageState, rightHandSide, errorWeight};
@@ -373,12 +373,11 @@ fn matrix_row(work: &mut [f64], to: usize, from: usize, n: usize, row: usize, c:
     }
 }
 
-// The matrix of the stages, where its factors will be.
-pub fn system_matrix(work: &mut [f64], file: &[u8], n: usize, s: usize, step: f64)
+// The matrix of the stages, where its factors will be: c is the step times gamma.
+fn matrix_rows(work: &mut [f64], n: usize, s: usize, c: f64)
     requires { ⌜ Room n s (length (now work)) ⌝ }
-    ensures { λ _. ⌜ now (work .exit) ≡ withMatrix n (tableauOf (now (file .entry))) step (now (work .entry)) ⌝ }
+    ensures { λ _. ⌜ ((t : Tableau) (h : Float) → c ≡ h ⊗ gammaOf t → now (work .exit) ≡ withMatrix n t h (now (work .entry))) ⌝ }
 {
-    let c = step * tableau::gamma(file);
     let mut from = 8 * n;
     let mut to = from + n * n;
     let mut row = 0;
@@ -388,6 +387,19 @@ pub fn system_matrix(work: &mut [f64], file: &[u8], n: usize, s: usize, step: f6
         to += n;
         row += 1;
     }
+}
+
+// The same from the file. Four rows are written out: the compiler knows their number.
+pub fn system_matrix(work: &mut [f64], file: &[u8], n: usize, s: usize, step: f64)
+    requires { ⌜ Room n s (length (now work)) ⌝ }
+    ensures { λ _. ⌜ now (work .exit) ≡ withMatrix n (tableauOf (now (file .entry))) step (now (work .entry)) ⌝ }
+{
+    let c = step * tableau::gamma(file);
+    if n == 4 {
+        matrix_rows(work, 4, s, c);
+        return;
+    }
+    matrix_rows(work, n, s, c);
 }
 
 // Factors the matrix in place, and lists the rows of its pivots.
