@@ -349,8 +349,23 @@ pub fn solve_stage(
     next_stage(file, state, work, n, s, time, step, i + 1)
 }
 
-// Copies n elements of the work to a later place.
-fn copy_within(work: &mut [f64], to: usize, from: usize, n: usize)
+// Copies four elements of the work, each read before any is stored.
+fn copy_four_within(work: &mut [f64], to: usize, from: usize)
+    requires { ⌜ (from + 4 ≤ length (now work)) × (to + 4 ≤ length (now work)) ⌝ }
+    ensures { λ _. ⌜ now (work .exit) ≡ puts (now (work .entry)) to (component (now (work .entry)) from) 4 ⌝ }
+{
+    let a = work[from];
+    let b = work[from + 1];
+    let c = work[from + 2];
+    let d = work[from + 3];
+    work[to] = a;
+    work[to + 1] = b;
+    work[to + 2] = c;
+    work[to + 3] = d;
+}
+
+// Copies n elements of the work to a later place, one at a time.
+fn copy_remainder(work: &mut [f64], to: usize, from: usize, n: usize)
     requires { ⌜ (from + n ≤ to) × (to + n ≤ length (now work)) ⌝ }
     ensures { λ _. ⌜ now (work .exit) ≡ puts (now (work .entry)) to (component (now (work .entry)) from) n ⌝ }
 {
@@ -359,6 +374,20 @@ fn copy_within(work: &mut [f64], to: usize, from: usize, n: usize)
         work[to + k] = work[from + k];
         k += 1;
     }
+}
+
+// Copies n elements of the work to a later place. Four at a time take wide stores, for which the wide
+// loads of the right-hand side need not wait.
+fn copy_within(work: &mut [f64], to: usize, from: usize, n: usize)
+    requires { ⌜ (from + n ≤ to) × (to + n ≤ length (now work)) ⌝ }
+    ensures { λ _. ⌜ now (work .exit) ≡ puts (now (work .entry)) to (component (now (work .entry)) from) n ⌝ }
+{
+    let mut k = 0;
+    while k + 3 < n {
+        copy_four_within(work, to + k, from + k);
+        k += 4;
+    }
+    copy_remainder(work, to + k, from + k, n - k);
 }
 
 // The first stage takes the derivative at the accepted state where its c is a zero.
