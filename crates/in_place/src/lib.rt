@@ -13,7 +13,8 @@ pub struct Landed {
     pub number: u32,
 }
 
-fn number_of(answer: Answer) -> u32
+// The number of a refusal, 0 for any other answer.
+pub fn number_of(answer: Answer) -> u32
     ensures { λ r. ⌜ r ≡ numberOf answer ⌝ }
 {
     match answer {

@@ -30,6 +30,10 @@ pub attempt-left : (step : Float) (jacobian partial : Bool) (y : RosenbrockStepp
 unfolding repliedAttempt
 attempt-left step jacobian partial y k = refl
 
+pub answered : (a : code.Answer) {k n : ℕ} → k ≡ kindOf a → n ≡ numberOf a → record { kind = k; number = n } ≡ ofAnswer a
+unfolding ofAnswer
+answered a e f = λ i. record { kind = e i; number = f i }
+
 pub numbered : (o : Outcome) {r : CallAnswer} → r ≡ ofAnswer (o .answer) → record { stepper = o .stepper; answer = r } ≡ inNumbers o
 unfolding inNumbers
 numbered o e = ap (λ (r : CallAnswer). record { stepper = o .stepper; answer = r }) e

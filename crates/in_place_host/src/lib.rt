@@ -7,6 +7,7 @@ ghost use Rattle.rosenbrock.specs.Stepper.{stepped};
 ghost use Rattle.rosenbrock.specs.Stepper as call;
 ghost use Rattle.rosenbrock.specs.Contracts.{systemOf, replied};
 ghost use Rattle.in_place.specs.Landing.{landed};
+ghost use Rattle.in_place.specs.Numbers.{kindOf};
 ghost use Rattle.in_place_host.specs.Handed.{ofAnswer, inNumbers, handed, asNumbers};
 use rosenbrock::Answer;
 use rosenbrock::Outcome;
@@ -26,14 +27,24 @@ pub struct Stepped {
     pub answer: CallAnswer,
 }
 
+fn kind_of(answer: Answer) -> u32
+    ensures { λ r. ⌜ r ≡ kindOf answer ⌝ }
+{
+    match answer {
+        Answer::Asked => 1,
+        Answer::Shown => 2,
+        Answer::Done => 3,
+        Answer::Refused(_) => 0,
+    }
+}
+
+// Two matches become look-ups in tables, where one would be a jump by a table.
 fn call_answer(answer: Answer) -> CallAnswer
     ensures { λ r. ⌜ r ≡ ofAnswer answer ⌝ }
 {
-    match answer {
-        Answer::Asked => CallAnswer { kind: 1, number: 0 },
-        Answer::Shown => CallAnswer { kind: 2, number: 0 },
-        Answer::Done => CallAnswer { kind: 3, number: 0 },
-        Answer::Refused(number) => CallAnswer { kind: 0, number },
+    CallAnswer {
+        kind: kind_of(answer),
+        number: in_place::number_of(answer),
     }
 }
 

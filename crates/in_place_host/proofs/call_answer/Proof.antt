@@ -1,48 +1,16 @@
--- `in_place_host::call_answer` meets its contract: case by case. Assumes nothing.
-use borrow.Author.Needs.{needs}
-use mathlib.Core.Path.{sym, ap}
-use Rattle.in_place.specs.Numbers.{kindOf, numberOf}
-use Rattle.in_place_host.specs.Handed.{ofAnswer}
+-- `in_place_host::call_answer` meets its contract: the kind and the number are those of its calls. Assumes nothing.
+use Rattle.in_place_host.proofs.Steps.{answered}
 use Rattle.in_place_host.proofs.call_answer.Statement.{statement}
 use Rattle.in_place_host.proofs.call_answer.Tie as tie
 
-enum-told : tie.Need-enum-told
-enum-told c = search needs
+kind-of-requires : tie.Need-kind-of-requires
+kind-of-requires c κs = tt
 
-enum-told-2 : tie.Need-enum-told-2
-enum-told-2 c = search needs
-
-enum-told-3 : tie.Need-enum-told-3
-enum-told-3 c = search needs
-
-enum-known-answer : tie.Need-enum-known-answer
-enum-known-answer c = search needs
+number-of-requires : tie.Need-number-of-requires
+number-of-requires c κs = tt
 
 returns : tie.Need-returns
-unfolding ofAnswer kindOf numberOf
-returns c = sym (ap ofAnswer (c .enum-told .given .1))
-
-returns-2 : tie.Need-returns-2
-unfolding ofAnswer kindOf numberOf
-returns-2 c = sym (ap ofAnswer (c .enum-told2 .given .1))
-
-returns-3 : tie.Need-returns-3
-unfolding ofAnswer kindOf numberOf
-returns-3 c = sym (ap ofAnswer (c .enum-told3 .given .1))
-
-returns-4 : tie.Need-returns-4
-unfolding ofAnswer kindOf numberOf
-returns-4 c = sym (ap ofAnswer (c .before .answer .given .1))
+returns c = answered (c .before .before .args .answer) (c .before .kind-of .ensures) (c .number-of .ensures)
 
 pub call-answer-spec : {M : Type 1} → statement M
-call-answer-spec =
-    tie.close
-    (tie.spec
-    enum-told
-    enum-told-2
-    enum-told-3
-    enum-known-answer
-    returns
-    returns-2
-    returns-3
-    returns-4)
+call-answer-spec = tie.close (tie.spec kind-of-requires number-of-requires returns)
