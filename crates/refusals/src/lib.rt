@@ -151,14 +151,15 @@ fn shape_fits(n: usize, s: usize, state: usize, work: usize, pivots: usize) -> b
 fn request_fits(n: usize, s: usize, request: u32, stage: usize) -> bool
     ensures { λ r. ⌜ r ≡ requestFits n s request stage ⌝ }
 {
-    if request == 8 {
-        return stage < s;
+    // the most frequent ones first
+    if request < 7 {
+        return stage == 0;
     }
     if request == 7 {
         return stage < n;
     }
-    if request < 7 {
-        return stage == 0;
+    if request == 8 {
+        return stage < s;
     }
     false
 }
