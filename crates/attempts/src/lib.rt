@@ -349,19 +349,17 @@ pub fn solve_stage(
     next_stage(file, state, work, n, s, time, step, i + 1)
 }
 
-// Copies four elements of the work, each read before any is stored.
+// Copies four elements of the work, each of them read before any is stored: the compiler then stores
+// them in 16 bytes at a time, for which a wide load that follows need not wait.
 fn copy_four_within(work: &mut [f64], to: usize, from: usize)
     requires { ⌜ (from + 4 ≤ length (now work)) × (to + 4 ≤ length (now work)) ⌝ }
     ensures { λ _. ⌜ now (work .exit) ≡ puts (now (work .entry)) to (component (now (work .entry)) from) 4 ⌝ }
 {
-    let a = work[from];
-    let b = work[from + 1];
-    let c = work[from + 2];
-    let d = work[from + 3];
-    work[to] = a;
-    work[to + 1] = b;
-    work[to + 2] = c;
-    work[to + 3] = d;
+    let x0 = work[from];
+    let x1 = work[from + 1];
+    let x2 = work[from + 2];
+    let x3 = work[from + 3];
+    stages::put_four(work, to, x0, x1, x2, x3);
 }
 
 // Copies n elements of the work to a later place, one at a time.
@@ -376,8 +374,7 @@ fn copy_remainder(work: &mut [f64], to: usize, from: usize, n: usize)
     }
 }
 
-// Copies n elements of the work to a later place. Four at a time take wide stores, for which the wide
-// loads of the right-hand side need not wait.
+// Copies n elements of the work to a later place.
 fn copy_within(work: &mut [f64], to: usize, from: usize, n: usize)
     requires { ⌜ (from + n ≤ to) × (to + n ≤ length (now work)) ⌝ }
     ensures { λ _. ⌜ now (work .exit) ≡ puts (now (work .entry)) to (component (now (work .entry)) from) n ⌝ }

@@ -132,7 +132,7 @@ fn right_hand_side(
 }
 
 // Stores four values side by side.
-fn put_four(work: &mut [f64], at: usize, a: f64, b: f64, c: f64, d: f64)
+pub fn put_four(work: &mut [f64], at: usize, a: f64, b: f64, c: f64, d: f64)
     requires { ⌜ at + 4 ≤ length (now work) ⌝ }
     ensures { λ _. ⌜ now (work .exit) ≡ set (set (set (set (now (work .entry)) at a) (at + 1) b) (at + 2) c) (at + 3) d ⌝ }
 {
@@ -373,9 +373,9 @@ fn matrix_row(work: &mut [f64], to: usize, from: usize, n: usize, row: usize, c:
     }
 }
 
-// The matrix of the stages, where its factors will be: c is the step times gamma.
-fn matrix_rows(work: &mut [f64], n: usize, s: usize, c: f64)
-    requires { ⌜ Room n s (length (now work)) ⌝ }
+// The rows of the matrix of the stages, for a c that is the step times gamma.
+fn matrix_rows(work: &mut [f64], n: usize, c: f64)
+    requires { ⌜ (n ≤ 32) × (n * n ≤ 1024) × (8 * n + 2 * (n * n) ≤ length (now work)) ⌝ }
     ensures { λ _. ⌜ ((t : Tableau) (h : Float) → c ≡ h ⊗ gammaOf t → now (work .exit) ≡ withMatrix n t h (now (work .entry))) ⌝ }
 {
     let mut from = 8 * n;
@@ -389,17 +389,18 @@ fn matrix_rows(work: &mut [f64], n: usize, s: usize, c: f64)
     }
 }
 
-// The same from the file. Four rows are written out: the compiler knows their number.
+// The matrix of the stages, where its factors will be.
 pub fn system_matrix(work: &mut [f64], file: &[u8], n: usize, s: usize, step: f64)
     requires { ⌜ Room n s (length (now work)) ⌝ }
     ensures { λ _. ⌜ now (work .exit) ≡ withMatrix n (tableauOf (now (file .entry))) step (now (work .entry)) ⌝ }
 {
     let c = step * tableau::gamma(file);
+    // a literal number lets the compiler write the loops out
     if n == 4 {
-        matrix_rows(work, 4, s, c);
+        matrix_rows(work, 4, c);
         return;
     }
-    matrix_rows(work, n, s, c);
+    matrix_rows(work, n, c);
 }
 
 // Factors the matrix in place, and lists the rows of its pivots.

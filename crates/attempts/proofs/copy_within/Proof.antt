@@ -1,5 +1,5 @@
 -- `attempts::copy_within` meets its contract: the elements passed are copied. Assumes nothing.
-use Prim.Native.Nat.{ℕ, _+_, _-_, _≤_, _<_}
+use Prim.Native.Nat.{ℕ, _+_, _-_, _≤_}
 use native.Mathlib.Omega.{arith}
 use mathlib.Core.Path.{_≡_, refl, ap, _∙_}
 use mathlib.Core.List.{List}
@@ -15,15 +15,15 @@ use Rattle.stages.specs.Memory.{component}
 use Rattle.attempts.proofs.copy_within.Statement.{statement}
 use Rattle.attempts.proofs.copy_within.Tie as tie
 
--- m more, after k
-copied-more : (w : List Float) (to from k m : ℕ) {v x : List Float} → from + (k + m) ≤ to → v ≡ puts w to (component w from) k
-    → x ≡ puts v (to + k) (component v (from + k)) m → x ≡ puts w to (component w from) (k + m)
-copied-more w to from k m {v} {x} l e q =
-    q ∙ ap (λ (z : List Float). puts z (to + k) (component z (from + k)) m) e
+-- k elements are copied, then m more
+copied : (w : List Float) (to from n : ℕ) → from + n ≤ to → (k m : ℕ) → k + m ≤ n → {v x : List Float}
+    → v ≡ puts w to (component w from) k → x ≡ puts v (to + k) (component v (from + k)) m → x ≡ puts w to (component w from) (k + m)
+copied w to from n h k m l {v} {x} p q =
+    q ∙ ap (λ (z : List Float). puts z (to + k) (component z (from + k)) m) p
     ∙ puts-join w to (component w from) k (component (puts w to (component w from) k) (from + k)) m
-    (λ j h.
-    let a : from + k + j ≡ from + (k + j) = omega arith in
-    puts-left nan w to (component w from) k (from + k + j) (inl (omega arith)) ∙ ap (el w) a)
+    (λ j r.
+    let e : from + k + j ≡ from + (k + j) = omega arith in
+    puts-left nan w to (component w from) k (from + k + j) (inl (omega arith)) ∙ ap (el w) e)
 
 abbrev Inv-loop : tie.InvT-loop
 Inv-loop work₀ to from n k₀ work k = (k ≤ n) × (length work ≡ length work₀) × (work ≡ puts work₀ to (component work₀ from) k)
@@ -33,7 +33,7 @@ abbrev μ-loop : tie.MeasureT-loop
 
 loop-holds : tie.Need-loop-holds Inv-loop μ-loop
 unfolding puts
-loop-holds c = (search needs, search needs, refl)
+loop-holds c = (search needs, refl, refl)
 
 add-loop : tie.Need-add-loop Inv-loop μ-loop
 add-loop c = search needs
@@ -58,8 +58,8 @@ loop-again c =
     let l = c .before .before .before .before .before .loop in
     let s = c .before .before .before .before .before .before .before in
     let a = s .args in
-    let w = c .before .before .copy-four-within in
-    (search needs, w .kept .0 ∙ l .inv .1, copied-more (now (a .work)) (a .to) (a .from) (l .k) 4 (omega (arith, s .pre .0)) (l .inv .2) (w .ensures))
+    let four = c .before .before .copy-four-within in
+    (search needs, four .kept .0 ∙ l .inv .1, copied (now (a .work)) (a .to) (a .from) (a .n) (s .pre .0) (l .k) 4 (omega arith) (l .inv .2) (four .ensures))
 
 add-copy-remainder : tie.Need-add-copy-remainder Inv-loop μ-loop
 add-copy-remainder c = search needs
@@ -81,9 +81,10 @@ returns c =
     let l = c .before .before .before .before .before .loop in
     let s = c .before .before .before .before .before .before .before in
     let a = s .args in
-    let e : l .k + (a .n - l .k) ≡ a .n = omega arith in
-    copied-more (now (a .work)) (a .to) (a .from) (l .k) (a .n - l .k) (omega (arith, s .pre .0)) (l .inv .2) (c .before .before .copy-remainder .ensures)
-    ∙ ap (puts (now (a .work)) (a .to) (component (now (a .work)) (a .from))) e
+    let w = now (a .work) in
+    let m = a .n - l .k in
+    let q : l .k + m ≡ a .n = omega arith in
+    copied w (a .to) (a .from) (a .n) (s .pre .0) (l .k) m (omega arith) (l .inv .2) (c .before .before .copy-remainder .ensures) ∙ ap (puts w (a .to) (component w (a .from))) q
 
 pub copy-within-spec : {M : Type 1} → statement M
 copy-within-spec =

@@ -20,12 +20,12 @@ use Rattle.stages.proofs.matrix_rows.Statement.{statement}
 use Rattle.stages.proofs.matrix_rows.Tie as tie
 
 abbrev Inv-loop : tie.InvT-loop
-Inv-loop work₀ n s c from₀ to₀ row₀ work from to row =
+Inv-loop work₀ n c from₀ to₀ row₀ work from to row =
     (row ≤ n) × (length work ≡ length work₀) × (from ≡ jacobianAt n + row * n) × (to ≡ factorsAt n + row * n)
     × ((t : Tableau) (h : Float) → c ≡ h ⊗ gammaOf t → work ≡ puts work₀ (factorsAt n) (el (stageMatrix t h n (part (jacobianAt n) (n * n) work₀))) (row * n))
 
 abbrev μ-loop : tie.MeasureT-loop
-μ-loop work₀ n s c from₀ to₀ row₀ work from to row = n - row
+μ-loop work₀ n c from₀ to₀ row₀ work from to row = n - row
 
 mul-from : tie.Need-mul-from Inv-loop μ-loop
 mul-from c = search needs
@@ -39,7 +39,8 @@ add-to c = search needs
 loop-holds : tie.Need-loop-holds Inv-loop μ-loop
 unfolding puts
 loop-holds c =
-    let z = zero-mul (c .before .args .n) in
+    let a = c .before .args in
+    let z = zero-mul (a .n) in
     (search needs, search needs, omega arith, omega arith, λ t h e. rw z)
 
 matrix-row-requires : tie.Need-matrix-row-requires Inv-loop μ-loop
@@ -79,11 +80,11 @@ same-length c = search needs
 
 returns : tie.Need-returns Inv-loop μ-loop
 unfolding withMatrix
-returns c =
+returns c t h e =
     let a = c .before .before .before .args in
     let l = c .before .loop in
     let q : l .row ≡ a .n = omega arith in
-    λ t h e. l .inv .4 t h e ∙ ap (λ (z : ℕ). puts (now (a .work)) (factorsAt (a .n)) (el (stageMatrix t h (a .n) (part (jacobianAt (a .n)) (a .n * a .n) (now (a .work))))) (z * a .n)) q
+    l .inv .4 t h e ∙ ap (λ (z : ℕ). puts (now (a .work)) (factorsAt (a .n)) (el (stageMatrix t h (a .n) (part (jacobianAt (a .n)) (a .n * a .n) (now (a .work))))) (z * a .n)) q
 
 pub matrix-rows-spec : {M : Type 1} → statement M
 matrix-rows-spec =
