@@ -115,6 +115,15 @@ impl Written {
         }
     }
 
+    /// As it was at first.
+    fn clear(&mut self) {
+        self.derivative.fill(0.0);
+        self.jacobian.fill(0.0);
+        self.time_partial.fill(0.0);
+        self.probe.fill(0.0);
+        self.stages.fill(0.0);
+    }
+
     /// Where what is asked for is written.
     #[inline(always)]
     fn place(&mut self, ask: Ask) -> &mut [f64] {
@@ -267,7 +276,7 @@ impl RosenbrockStepper {
     /// Starts again, with as many components.
     pub fn reset(&mut self, time: f64, state: &[f64]) -> Result<(), Failure> {
         calls::reset(&mut self.record, time, state, self.memory.lend())?;
-        self.written = Written::new(self.record.fixed.n, self.record.fixed.s);
+        self.written.clear();
         Ok(())
     }
 }

@@ -151,7 +151,7 @@ fn shape_fits(n: usize, s: usize, state: usize, work: usize, pivots: usize) -> b
 fn request_fits(n: usize, s: usize, request: u32, stage: usize) -> bool
     ensures { λ r. ⌜ r ≡ requestFits n s request stage ⌝ }
 {
-    // the most frequent ones first
+    // a request without a number of its own is settled by one comparison
     if request < 7 {
         return stage == 0;
     }
