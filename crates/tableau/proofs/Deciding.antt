@@ -12,8 +12,8 @@ use Rattle.vector.specs.Lists.{every}
 use Rattle.stepping.proofs.Refusals.{is-refused, is-answered}
 use Rattle.tableau.specs.declared.Counts.{Counts}
 use Rattle.tableau.specs.declared.Sameness.the-variants.{Same, Other, Refused}
-use Rattle.tableau.specs.Tableau.{inRange, howMany, allowedAt, valid}
-use Rattle.tableau.specs.File.{place, header, countsOf, coefficientsOf, matches, accepts, check}
+use Rattle.tableau.specs.Tableau.{triangle, ifPresent, inRange, howMany, allowedAt, valid}
+use Rattle.tableau.specs.File.{place, header, number, countsOf, coefficientsOf, matches, accepts, check}
 use Rattle.tableau.specs.Same.{alikeAt, sameCounts, sameTableau, same}
 use Rattle.tableau.proofs.Laws.{length-coefficients}
 
@@ -24,6 +24,10 @@ stages-in k h = leb-true (k .stages) 8 (and-right (leb 1 (k .stages)) (leb (k .s
 pub last-is : (k : Counts) → getD (header k) 11 0 ≡ place (howMany k)
 unfolding header
 last-is k = refl
+
+-- one stage and btilde
+abbrev oneStage : ℕ → ℕ → Counts
+oneStage kind estimator = record { stages = 1; kind = kind; estimator = estimator; btilde = 1 }
 
 module _ (file : List ℕ) where
   abbrev K : Counts
@@ -83,6 +87,19 @@ module _ (file : List ℕ) where
             let L : length file ≡ place (howMany K) = l ∙ long-is in
             let m : length (coefficientsOf file) ≡ howMany K = omega (arith, length-coefficients file) in
             yes _ (accepts-is ∙ both (both (ap inRange (sym e) ∙ sym R ∙ p) (both (eq-eqb (length (coefficientsOf file)) (howMany K) m) (sym A ∙ s))) (both (eq-eqb (length file) (place (howMany K)) L) (sym headed-is ∙ q))) refl
+
+-- a file with one stage and btilde, as long as their five coefficients ask for
+module _ (file : List ℕ) where
+  pub counts-one-stage : {kind estimator : ℕ} → number file 0 ≡ 1 → number file 3 ≡ 1 → kind ≡ number file 1 → estimator ≡ number file 2 → oneStage kind estimator ≡ countsOf file
+  unfolding countsOf
+  counts-one-stage s b k e = rw (s, b, k, e)
+
+  pub length-one-stage : (kind estimator : ℕ) {head : List ℕ} → length file ≡ 88 → head ≡ header (oneStage kind estimator) → length file ≡ getD head 11 0
+  unfolding howMany ifPresent triangle
+  length-one-stage kind estimator l H = l ∙ sym (ap (λ (n : List ℕ). getD n 11 0) H ∙ last-is (oneStage kind estimator))
+
+  pub allowed-one-stage : {a : Bool} → length file ≡ 88 → a ≡ every 5 (allowedAt (coefficientsOf file)) → a ≡ every (length (coefficientsOf file)) (allowedAt (coefficientsOf file))
+  allowed-one-stage l A = A ∙ ap (λ (n : ℕ). every n (allowedAt (coefficientsOf file))) (omega (arith, length-coefficients file, l))
 
 module _ (x y : List ℕ) {j : ℕ} (e : j ≡ check x) where
   pub first-refused : (j ≡ 0 → ⊥) → Refused j ≡ same x y

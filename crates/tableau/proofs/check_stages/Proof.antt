@@ -1,11 +1,11 @@
--- `tableau::check` meets its contract: the tests, in the order in which they are made. Assumes nothing.
+-- `tableau::check_stages` meets its contract: the tests, in the order in which they are made. Assumes nothing.
 use denote.Ref.{now}
 use borrow.Author.Needs.{needs}
 use borrow.Author.Tests.{not-true, not-false}
 use Rattle.float.proofs.Cases.{told-yes}
 use Rattle.tableau.proofs.Deciding.{stages-in, too-short, out-of-range, other-length, other-numbers, not-allowed, all-right}
-use Rattle.tableau.proofs.check.Statement.{statement}
-use Rattle.tableau.proofs.check.Tie as tie
+use Rattle.tableau.proofs.check_stages.Statement.{statement}
+use Rattle.tableau.proofs.check_stages.Tie as tie
 
 returns : tie.Need-returns
 returns c = too-short (now (c .before .before .args .file)) (c .if1 .taken)
@@ -36,7 +36,7 @@ returns-4 c =
     other-numbers (now (c .before .before .before .before .before .before .before .before .before .before .args .file)) (c .before .before .before .before .before .before .before .read-counts .ensures) (c .before .before .before .before .before .before .in-range .ensures) (c .before .before .before .before .header .ensures) (c .before .headed .ensures) (not-true _ (c .if4 .taken))
 
 all-allowed-requires : tie.Need-all-allowed-requires
-all-allowed-requires c κs = tt
+all-allowed-requires c κs = search needs
 
 returns-5 : tie.Need-returns-5
 returns-5 c =
@@ -45,8 +45,8 @@ returns-5 c =
 returns-6 : tie.Need-returns-6
 returns-6 c = not-allowed (now (c .before .before .before .before .before .before .before .before .before .before .before .before .args .file)) (c .before .all-allowed .ensures) (c .if5 .left)
 
-pub check-spec : {M : Type 1} → statement M
-check-spec =
+pub check-stages-spec : {M : Type 1} → statement M
+check-stages-spec =
     tie.close
     (tie.spec
     returns
