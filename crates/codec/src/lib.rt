@@ -1,6 +1,6 @@
 // Little-endian numbers and doubles in a byte slice.
 ghost use mathlib.Core.Path.{_≡_};
-ghost use Prim.Native.Nat.{_+_, _*_, _%_, _≤_};
+ghost use Prim.Native.Nat.{_+_, _*_, _/_, _%_, _≤_};
 ghost use lib.ListN.{length};
 ghost use lib.Seq.{sets};
 ghost use Rattle.codec.specs.Little.{little, doubleAt, bytesOf};
@@ -31,19 +31,23 @@ pub fn read_u32(s: &[u8], at: usize) -> u32
     quad(s[at], s[at + 1], s[at + 2], s[at + 3])
 }
 
-// The eight bytes from `at` on, the lowest first.
+// The eight bytes from `at` on, the lowest first; the upper half of the number is that of the bytes.
 pub fn read_u64(s: &[u8], at: usize) -> u64
     requires { ⌜ at + 8 ≤ length (now s) ⌝ }
-    ensures { λ r. ⌜ r ≡ little 8 (now (s .entry)) at ⌝ }
+    ensures { λ r. ⌜ (r ≡ little 8 (now (s .entry)) at) × (r / 0x1_0000_0000 ≡ little 4 (now (s .entry)) (at + 4)) ⌝ }
 {
     wider(read_u32(s, at)) + 0x1_0000_0000 * wider(read_u32(s, at + 4))
 }
 
-// The double whose bits are the eight bytes from `at` on.
+// The double whose bits are the eight bytes from `at` on. Of a finite one the upper four bytes tell that it
+// is no NaN, with smaller numbers than the bits as a whole.
 pub fn read_f64(s: &[u8], at: usize) -> f64
     requires { ⌜ at + 8 ≤ length (now s) ⌝ }
     ensures { λ r. ⌜ r ≡ doubleAt (now (s .entry)) at ⌝ }
 {
+    if read_u32(s, at + 4) % 0x8000_0000 < 0x7ff0_0000 {
+        return f64::from_bits(read_u64(s, at));
+    }
     float::of_bits(read_u64(s, at))
 }
 

@@ -1,6 +1,7 @@
 -- `codec::read_u64` meets its contract. Assumes nothing.
+use Prim.Native.Nat.{_<_}
 use mathlib.Core.Path.{_∙_}
-use Rattle.codec.proofs.Bytes.{eight}
+use Rattle.codec.proofs.Bytes.{eight, upper-half}
 use borrow.Author.Needs.{needs}
 use Rattle.codec.proofs.read_u64.Statement.{statement}
 use Rattle.codec.proofs.read_u64.Tie as tie
@@ -29,7 +30,10 @@ add-result c = search needs
 returns : tie.Need-returns
 returns c =
     let a = c .before .before .before .before .before .args in
-    eight (a .s .now) (a .at) (c .before .before .wider .ensures ∙ c .before .before .before .read-u32 .ensures) (c .wider2 .ensures ∙ c .before .read-u322 .ensures)
+    let lo = c .before .before .wider .ensures in
+    let l : c .before .before .wider .result < 0x1_0000_0000 = search needs in
+    let hi = c .wider2 .ensures ∙ c .before .read-u322 .ensures in
+    (eight (a .s .now) (a .at) (lo ∙ c .before .before .before .read-u32 .ensures) hi, upper-half l hi)
 
 pub read-u64-spec : {M : Type 1} → statement M
 read-u64-spec =

@@ -46,7 +46,7 @@ unfolding allowedAt
 loop-again c =
     let l = c .before .before .before .before .loop in
     let file = c .before .before .before .before .before .before .args .file .now in
-    (omega arith, every-more (allowedAt (coefficientsOf file)) (l .i) (c .both .ensures) (l .inv .1) (c .before .allowed .ensures ∙ rw (coefficient-at file (l .i) (omega arith), c .before .before .read-u64 .ensures)))
+    (omega arith, every-more (allowedAt (coefficientsOf file)) (l .i) (c .both .ensures) (l .inv .1) (c .before .allowed .ensures ∙ rw (coefficient-at file (l .i) (omega arith), c .before .before .read-u64 .ensures .0)))
 
 returns : tie.Need-returns Inv-loop μ-loop
 returns c =
