@@ -82,6 +82,10 @@ fn largest_magnitude(matrix: &[f64]) -> f64
     if matrix.len() == 16 {
         return largest_of_blocks(matrix, 4);
     }
+    // blocks this short cost more than they save
+    if matrix.len() < 16 {
+        return largest_of(matrix, matrix.len());
+    }
     let size = matrix.len() / 4;
     let blocks = largest_of_blocks(matrix, size);
     larger(blocks, largest_of(&matrix[4 * size..], matrix.len() % 4))

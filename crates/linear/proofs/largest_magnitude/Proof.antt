@@ -23,6 +23,13 @@ returns c =
     let e : 4 * 4 ≡ length a = omega arith in
     c .largest-of-blocks .ensures ∙ ap (largest a) e
 
+largest-of-requires : tie.Need-largest-of-requires
+largest-of-requires c κs = search needs
+
+returns-2 : tie.Need-returns-2
+unfolding scale
+returns-2 c = c .largest-of .ensures
+
 largest-of-blocks-requires-2 : tie.Need-largest-of-blocks-requires-2
 largest-of-blocks-requires-2 c κs = search needs
 
@@ -41,21 +48,21 @@ part-largest-of-start c = search needs
 part-largest-of-end : tie.Need-part-largest-of-end
 part-largest-of-end c = search needs
 
-largest-of-requires : tie.Need-largest-of-requires
-largest-of-requires c κs = search needs
+largest-of-requires-2 : tie.Need-largest-of-requires-2
+largest-of-requires-2 c κs = search needs
 
 larger-requires : tie.Need-larger-requires
 larger-requires c κs = tt
 
-returns-2 : tie.Need-returns-2
+returns-3 : tie.Need-returns-3
 unfolding scale
-returns-2 c =
+returns-3 c =
     let blocks = c .before .before .before in
-    let a = now (blocks .before .before .before .args .matrix) in
+    let a = now (blocks .before .before .before .before .args .matrix) in
     let k = 4 * (length a / 4) in
     let n = length a % 4 in
     let e : k + n ≡ length a = omega arith in
-    let rest = c .before .largest-of .ensures ∙ ap (λ (l : List Float). largest l n) (part-to-end a k) in
+    let rest = c .before .largest-of2 .ensures ∙ ap (λ (l : List Float). largest l n) (part-to-end a k) in
     two-blocks a k n (blocks .largest-of-blocks2 .ensures) rest (c .larger .ensures) ∙ ap (largest a) e
 
 pub largest-magnitude-spec : {M : Type 1} → statement M
@@ -64,12 +71,14 @@ largest-magnitude-spec =
     (tie.spec
     largest-of-blocks-requires
     returns
+    largest-of-requires
+    returns-2
     largest-of-blocks-requires-2
     mul-largest-of
     mul-largest-of-2
     sub-largest-of
     part-largest-of-start
     part-largest-of-end
-    largest-of-requires
+    largest-of-requires-2
     larger-requires
-    returns-2)
+    returns-3)
