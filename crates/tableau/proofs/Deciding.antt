@@ -1,5 +1,5 @@
 -- From the tests that `check` and `same` make to what the definitions answer. Assumes nothing.
-use Prim.Native.Nat.{ℕ, _<_, _≤_}
+use Prim.Native.Nat.{ℕ, _+_, _*_, _<_, _≤_}
 use native.Mathlib.Omega.{arith}
 use mathlib.Core.Path.{_≡_, refl, sym, ap, _∙_}
 use mathlib.Core.Bool.{Bool, true, false, _&&_}
@@ -12,7 +12,7 @@ use Rattle.vector.specs.Lists.{every}
 use Rattle.stepping.proofs.Refusals.{is-refused, is-answered}
 use Rattle.tableau.specs.declared.Counts.{Counts}
 use Rattle.tableau.specs.declared.Sameness.the-variants.{Same, Other, Refused}
-use Rattle.tableau.specs.Tableau.{triangle, ifPresent, inRange, howMany, allowedAt, valid}
+use Rattle.tableau.specs.Tableau.{btildeAt, ifPresent, inRange, howMany, allowedAt, valid}
 use Rattle.tableau.specs.File.{place, header, number, countsOf, coefficientsOf, matches, accepts, check}
 use Rattle.tableau.specs.Same.{alikeAt, sameCounts, sameTableau, same}
 use Rattle.tableau.proofs.Laws.{length-coefficients}
@@ -25,9 +25,9 @@ pub last-is : (k : Counts) → getD (header k) 11 0 ≡ place (howMany k)
 unfolding header
 last-is k = refl
 
--- one stage and btilde
-abbrev oneStage : ℕ → ℕ → Counts
-oneStage kind estimator = record { stages = 1; kind = kind; estimator = estimator; btilde = 1 }
+-- counts with btilde
+abbrev withBtilde : ℕ → ℕ → ℕ → Counts
+withBtilde stages kind estimator = record { stages = stages; kind = kind; estimator = estimator; btilde = 1 }
 
 module _ (file : List ℕ) where
   abbrev K : Counts
@@ -88,18 +88,18 @@ module _ (file : List ℕ) where
             let m : length (coefficientsOf file) ≡ howMany K = omega (arith, length-coefficients file) in
             yes _ (accepts-is ∙ both (both (ap inRange (sym e) ∙ sym R ∙ p) (both (eq-eqb (length (coefficientsOf file)) (howMany K) m) (sym A ∙ s))) (both (eq-eqb (length file) (place (howMany K)) L) (sym headed-is ∙ q))) refl
 
--- a file with one stage and btilde, as long as their five coefficients ask for
-module _ (file : List ℕ) where
-  pub counts-one-stage : {kind estimator : ℕ} → number file 0 ≡ 1 → number file 3 ≡ 1 → kind ≡ number file 1 → estimator ≡ number file 2 → oneStage kind estimator ≡ countsOf file
+-- a file with btilde, as long as its stages ask for, by their number and that of its coefficients
+module _ (file : List ℕ) (stages coefficients : ℕ) (l : length file ≡ 48 + 8 * coefficients) (m : coefficients ≡ btildeAt stages + stages) where
+  pub counts-by-number : {kind estimator : ℕ} → number file 0 ≡ stages → number file 3 ≡ 1 → kind ≡ number file 1 → estimator ≡ number file 2 → withBtilde stages kind estimator ≡ countsOf file
   unfolding countsOf
-  counts-one-stage s b k e = rw (s, b, k, e)
+  counts-by-number s b k e = rw (s, b, k, e)
 
-  pub length-one-stage : (kind estimator : ℕ) {head : List ℕ} → length file ≡ 88 → head ≡ header (oneStage kind estimator) → length file ≡ getD head 11 0
-  unfolding howMany ifPresent triangle
-  length-one-stage kind estimator l H = l ∙ sym (ap (λ (n : List ℕ). getD n 11 0) H ∙ last-is (oneStage kind estimator))
+  pub length-by-number : (kind estimator : ℕ) {head : List ℕ} → head ≡ header (withBtilde stages kind estimator) → length file ≡ getD head 11 0
+  unfolding howMany ifPresent
+  length-by-number kind estimator H = l ∙ ap place m ∙ sym (ap (λ (n : List ℕ). getD n 11 0) H ∙ last-is (withBtilde stages kind estimator))
 
-  pub allowed-one-stage : {a : Bool} → length file ≡ 88 → a ≡ every 5 (allowedAt (coefficientsOf file)) → a ≡ every (length (coefficientsOf file)) (allowedAt (coefficientsOf file))
-  allowed-one-stage l A = A ∙ ap (λ (n : ℕ). every n (allowedAt (coefficientsOf file))) (omega (arith, length-coefficients file, l))
+  pub allowed-by-number : {a : Bool} → a ≡ every coefficients (allowedAt (coefficientsOf file)) → a ≡ every (length (coefficientsOf file)) (allowedAt (coefficientsOf file))
+  allowed-by-number A = A ∙ ap (λ (n : ℕ). every n (allowedAt (coefficientsOf file))) (omega (arith, length-coefficients file, l))
 
 module _ (x y : List ℕ) {j : ℕ} (e : j ≡ check x) where
   pub first-refused : (j ≡ 0 → ⊥) → Refused j ≡ same x y

@@ -4,7 +4,7 @@ ghost use Prim.Native.Nat.{ℕ, _+_, _-_, _*_, _/_, _≤_, _<_};
 ghost use lib.ListN.{length};
 ghost use lib.Ieee.{binary64, ofBits};
 ghost use Rattle.vector.specs.Lists.{el, every};
-ghost use Rattle.tableau.specs.Tableau.{triangle, present, ifPresent, inRange, allowed, allowedAt, stagesOf, ofPart, gammaOf, aOf, couplingOf, cOf, dOf, bOf, btildeOf};
+ghost use Rattle.tableau.specs.Tableau.{triangle, btildeAt, present, ifPresent, inRange, allowed, allowedAt, stagesOf, ofPart, gammaOf, aOf, couplingOf, cOf, dOf, bOf, btildeOf};
 ghost use Rattle.tableau.specs.File.{header, number, matches, countsOf, coefficientsOf, tableauOf, check};
 ghost use Rattle.tableau.specs.Same.{alike, alikeAt, sameCounts, same};
 use stepping::TABLEAU_FILE;
@@ -12,8 +12,10 @@ use stepping::TABLEAU_FILE;
 // The bytes before the first coefficient.
 const HEADER: usize = 48;
 
-// The bytes of a file with one stage and btilde: five coefficients.
+// The bytes of a file with btilde: five coefficients at one stage, 29 at four.
 const ONE_STAGE: usize = 88;
+
+const FOUR_STAGES: usize = 280;
 
 // kind: 0 Rosenbrock, 1 hybrid. estimator: 0 embedded, 1 step doubling. btilde: 1 where it is
 // present, 0 where it is not.
@@ -163,14 +165,14 @@ fn all_allowed(file: &[u8]) -> bool
     first_allowed(file, held(file))
 }
 
-// The check of a file with one stage and btilde, by number, so that the compiler writes the loops out: at
-// one stage the check of the file is the larger part of a supply's tests.
-fn check_one_stage(file: &[u8]) -> u32
-    requires { ⌜ (length (now file) ≡ 88) × (number (now file) 0 ≡ 1) × (number (now file) 3 ≡ 1) ⌝ }
+// The check of a file with btilde, whose numbers of stages and of coefficients are handed over: where they are
+// literals, the compiler writes the loops out.
+fn check_by_number(file: &[u8], stages: usize, coefficients: usize) -> u32
+    requires { ⌜ (length (now file) ≡ 48 + 8 * coefficients) × (coefficients ≡ btildeAt stages + stages) × (number (now file) 0 ≡ stages) × (number (now file) 3 ≡ 1) ⌝ }
     ensures { λ r. ⌜ r ≡ check (now (file .entry)) ⌝ }
 {
     let k = Counts {
-        stages: 1,
+        stages,
         kind: number(file, 1),
         estimator: number(file, 2),
         btilde: 1,
@@ -182,7 +184,7 @@ fn check_one_stage(file: &[u8]) -> u32
     if !headed(file, &head) {
         return TABLEAU_FILE;
     }
-    if first_allowed(file, 5) {
+    if first_allowed(file, coefficients) {
         return 0;
     }
     TABLEAU_FILE
@@ -212,14 +214,22 @@ fn check_stages(file: &[u8]) -> u32
     TABLEAU_FILE
 }
 
-// 0 for a tableau file, 12 for anything else.
+// 0 for a tableau file, 12 for anything else. One stage and four stages with btilde are checked by number:
+// the check of the file is a large part of a supply's tests.
 pub fn check(file: &[u8]) -> u32
     ensures { λ r. ⌜ r ≡ check (now (file .entry)) ⌝ }
 {
     if file.len() == ONE_STAGE {
         if number(file, 0) == 1 {
             if number(file, 3) == 1 {
-                return check_one_stage(file);
+                return check_by_number(file, 1, 5);
+            }
+        }
+    }
+    if file.len() == FOUR_STAGES {
+        if number(file, 0) == 4 {
+            if number(file, 3) == 1 {
+                return check_by_number(file, 4, 29);
             }
         }
     }

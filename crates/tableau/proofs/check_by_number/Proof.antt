@@ -1,11 +1,11 @@
--- `tableau::check_one_stage` meets its contract: the tests, in the order in which they are made. Assumes nothing.
+-- `tableau::check_by_number` meets its contract: the tests, in the order in which they are made. Assumes nothing.
 use denote.Ref.{now}
 use borrow.Author.Needs.{needs}
 use borrow.Author.Tests.{not-true, not-false}
 use Rattle.float.proofs.Cases.{told-yes}
-use Rattle.tableau.proofs.Deciding.{stages-in, out-of-range, other-numbers, not-allowed, all-right, counts-one-stage, length-one-stage, allowed-one-stage}
-use Rattle.tableau.proofs.check_one_stage.Statement.{statement}
-use Rattle.tableau.proofs.check_one_stage.Tie as tie
+use Rattle.tableau.proofs.Deciding.{stages-in, out-of-range, other-numbers, not-allowed, all-right, counts-by-number, length-by-number, allowed-by-number}
+use Rattle.tableau.proofs.check_by_number.Statement.{statement}
+use Rattle.tableau.proofs.check_by_number.Tie as tie
 
 number-requires : tie.Need-number-requires
 number-requires c κs = search needs
@@ -20,11 +20,11 @@ returns : tie.Need-returns
 returns c =
     let s = c .before .before .before .before .before in
     let file = now (s .args .file) in
-    let e = counts-one-stage file (s .pre .1) (s .pre .2) (c .before .before .before .number .ensures) (c .before .before .number2 .ensures) in
+    let e = counts-by-number file _ _ (s .pre .0) (s .pre .1) (s .pre .2) (s .pre .3) (c .before .before .before .number .ensures) (c .before .before .number2 .ensures) in
     out-of-range file e (c .before .in-range .ensures) (not-true _ (c .if1 .taken))
 
 header-requires : tie.Need-header-requires
-header-requires c κs = search needs
+header-requires c κs = stages-in _ (told-yes (c .before .in-range .ensures) (c .if1 .left))
 
 headed-requires : tie.Need-headed-requires
 headed-requires c κs = tt
@@ -34,7 +34,7 @@ returns-2 c =
     let d = c .before .before .before .before .before in
     let s = d .before .before .before .before in
     let file = now (s .args .file) in
-    let e = counts-one-stage file (s .pre .1) (s .pre .2) (d .before .before .number .ensures) (d .before .number2 .ensures) in
+    let e = counts-by-number file _ _ (s .pre .0) (s .pre .1) (s .pre .2) (s .pre .3) (d .before .before .number .ensures) (d .before .number2 .ensures) in
     other-numbers file e (d .in-range .ensures) (c .before .before .before .header .ensures) (c .before .headed .ensures) (not-true _ (c .if2 .taken))
 
 first-allowed-requires : tie.Need-first-allowed-requires
@@ -45,18 +45,18 @@ returns-3 c =
     let d = c .before .before .before .before .before .before .before in
     let s = d .before .before .before .before in
     let file = now (s .args .file) in
-    let e = counts-one-stage file (s .pre .1) (s .pre .2) (d .before .before .number .ensures) (d .before .number2 .ensures) in
+    let e = counts-by-number file _ _ (s .pre .0) (s .pre .1) (s .pre .2) (s .pre .3) (d .before .before .number .ensures) (d .before .number2 .ensures) in
     let h = c .before .before .before .before .before .header .ensures in
-    all-right file e (d .in-range .ensures) h (c .before .before .before .headed .ensures) (allowed-one-stage file (s .pre .0) (c .before .first-allowed .ensures)) (not-false _ (c .before .before .before .before .before .before .if1 .left)) (length-one-stage file _ _ (s .pre .0) h) (not-false _ (c .before .before .if2 .left)) (c .if3 .taken)
+    all-right file e (d .in-range .ensures) h (c .before .before .before .headed .ensures) (allowed-by-number file _ _ (s .pre .0) (s .pre .1) (c .before .first-allowed .ensures)) (not-false _ (c .before .before .before .before .before .before .if1 .left)) (length-by-number file _ _ (s .pre .0) (s .pre .1) _ _ h) (not-false _ (c .before .before .if2 .left)) (c .if3 .taken)
 
 returns-4 : tie.Need-returns-4
 returns-4 c =
     let s = c .before .before .before .before .before .before .before .before .before .before .before in
     let file = now (s .args .file) in
-    not-allowed file (allowed-one-stage file (s .pre .0) (c .before .first-allowed .ensures)) (c .if3 .left)
+    not-allowed file (allowed-by-number file _ _ (s .pre .0) (s .pre .1) (c .before .first-allowed .ensures)) (c .if3 .left)
 
-pub check-one-stage-spec : {M : Type 1} → statement M
-check-one-stage-spec =
+pub check-by-number-spec : {M : Type 1} → statement M
+check-by-number-spec =
     tie.close
     (tie.spec
     number-requires
