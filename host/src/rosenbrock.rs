@@ -253,7 +253,8 @@ impl RosenbrockStepper {
             let (record, lent) = (&mut stepper.record, stepper.memory.lend());
             answer = calls::supply_in_place(record, &stepper.file, values, lent);
         }
-        drop(open);
+        // the step is shown, and no attempt is open
+        std::mem::forget(open);
         Ok(direct::view(&self.record, &self.memory))
     }
 

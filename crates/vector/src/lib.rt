@@ -52,11 +52,15 @@ fn copy_four(dst: &mut [f64], src: &[f64], i: usize)
     dst[i + 3] = d;
 }
 
-// Copies src to dst, which is as long. Four at a time take wide loads and stores.
+// Copies src to dst, which is as long. Four at a time take wide loads and stores, and four in all no loop.
 pub fn copy(dst: &mut [f64], src: &[f64])
     requires { ⌜ length (now dst) ≡ length (now src) ⌝ }
     ensures { λ _. ⌜ now (dst .exit) ≡ now (src .entry) ⌝ }
 {
+    if dst.len() == 4 {
+        copy_four(dst, src, 0);
+        return;
+    }
     let mut i = 0;
     while i + 3 < dst.len() {
         copy_four(dst, src, i);

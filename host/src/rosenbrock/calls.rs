@@ -111,10 +111,15 @@ fn told(record: &mut Record, answer: StepperAnswer) -> Answer {
 
 #[inline]
 fn told_in_place(answer: CallAnswer) -> Answer {
-    // the most frequent one by itself, so that it takes no jump by a table
     if answer.kind == 1 {
         return Ok(Told::Asked);
     }
+    told_at_an_end(answer)
+}
+
+/// Where nothing is asked. Apart, so that the most frequent answer takes no jump by a table.
+#[inline(never)]
+fn told_at_an_end(answer: CallAnswer) -> Answer {
     match answer.kind {
         0 => Err(Failure::told(answer.number)),
         2 => Ok(Told::Shown),

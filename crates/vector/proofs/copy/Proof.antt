@@ -1,5 +1,5 @@
 -- `vector::copy` meets its contract: the front is made of the elements of src. Assumes nothing.
-use Prim.Native.Nat.{_+_, _-_, _≤_}
+use Prim.Native.Nat.{ℕ, _+_, _-_, _≤_}
 use native.Mathlib.Omega.{arith}
 use mathlib.Core.Path.{_≡_, refl, ap, _∙_}
 use mathlib.Core.List.{List}
@@ -27,6 +27,24 @@ Inv-loop2 dst₀ src i₀ dst i = (i ≤ length dst₀) × (length dst ≡ lengt
 abbrev μ-loop2 : tie.MeasureT-loop2
 μ-loop2 dst₀ src i₀ dst i = length dst₀ - i
 
+-- as many elements of x as there are, in place of as many
+whole : (d x : List Float) (n : ℕ) → length x ≡ n → length d ≡ n → puts d 0 (el x) n ≡ x
+whole d x n h k = puts-all d (el x) n nan k ∙ table-own nan x n h
+
+copy-four-requires : tie.Need-copy-four-requires Inv-loop μ-loop Inv-loop2 μ-loop2
+copy-four-requires c κs = search needs
+
+same-length : tie.Need-same-length Inv-loop μ-loop Inv-loop2 μ-loop2
+same-length c = search needs
+
+returns : tie.Need-returns Inv-loop μ-loop Inv-loop2 μ-loop2
+unfolding puts
+returns c =
+    let a = c .before .before .before .before .before .before .before .args in
+    let d = now (a .dst) in
+    let x = now (a .src) in
+    c .before .before .copy-four .ensures ∙ front-join d (el x) 0 4 ∙ whole d x 4 (omega arith) (omega arith)
+
 loop-holds : tie.Need-loop-holds Inv-loop μ-loop Inv-loop2 μ-loop2
 unfolding puts
 loop-holds c = (search needs, search needs, refl)
@@ -34,8 +52,8 @@ loop-holds c = (search needs, search needs, refl)
 add-loop : tie.Need-add-loop Inv-loop μ-loop Inv-loop2 μ-loop2
 add-loop c = search needs
 
-copy-four-requires : tie.Need-copy-four-requires Inv-loop μ-loop Inv-loop2 μ-loop2
-copy-four-requires c κs = search needs
+copy-four-requires-2 : tie.Need-copy-four-requires-2 Inv-loop μ-loop Inv-loop2 μ-loop2
+copy-four-requires-2 c κs = search needs
 
 add-i : tie.Need-add-i Inv-loop μ-loop Inv-loop2 μ-loop2
 add-i c = search needs
@@ -46,11 +64,11 @@ loop-less c = search needs
 loop-again : tie.Need-loop-again Inv-loop μ-loop Inv-loop2 μ-loop2
 loop-again c =
     let l = c .before .before .before .before .before .loop in
-    let a = c .before .before .before .before .before .before .before .before .args in
+    let a = c .before .before .before .before .before .before .before .before .before .args in
     let x = now (a .src) in (
       search needs,
-      c .before .before .copy-four .kept .0 ∙ l .inv .1,
-      c .before .before .copy-four .ensures
+      c .before .before .copy-four2 .kept .0 ∙ l .inv .1,
+      c .before .before .copy-four2 .ensures
           ∙ ap (λ (d : List Float). puts d (l .i) (λ j. el x (l .i + j)) 4) (l .inv .2)
           ∙ front-join (now (a .dst)) (el x) (l .i) 4,
     )
@@ -58,7 +76,7 @@ loop-again c =
 loop2-holds : tie.Need-loop2-holds Inv-loop μ-loop Inv-loop2 μ-loop2
 loop2-holds c =
     let l = c .before .loop in
-    let a = c .before .before .before .before .args in
+    let a = c .before .before .before .before .before .args in
     (omega arith, refl, puts-kept (now (a .dst)) 0 (el (now (a .src))) (l .i) (l .inv .2))
 
 mul-dst : tie.Need-mul-dst Inv-loop μ-loop Inv-loop2 μ-loop2
@@ -83,19 +101,18 @@ loop2-again : tie.Need-loop2-again Inv-loop μ-loop Inv-loop2 μ-loop2
 loop2-again c =
     let l = c .before .before .loop2 in
     let d = c .before .before .before .before .loop .dst in
-    let x = now (c .before .before .before .before .before .before .before .args .src) in
+    let x = now (c .before .before .before .before .before .before .before .before .args .src) in
     (search needs, simp length-set (l .inv .1), rw (l .inv .2) (front-more d (el x) (l .i)))
 
-same-length : tie.Need-same-length Inv-loop μ-loop Inv-loop2 μ-loop2
-same-length c = search needs
+same-length-2 : tie.Need-same-length-2 Inv-loop μ-loop Inv-loop2 μ-loop2
+same-length-2 c = search needs
 
-returns : tie.Need-returns Inv-loop μ-loop Inv-loop2 μ-loop2
-returns c =
+returns-2 : tie.Need-returns-2 Inv-loop μ-loop Inv-loop2 μ-loop2
+returns-2 c =
     let l = c .before .loop2 in
     let d = c .before .before .before .loop .dst in
-    let x = now (c .before .before .before .before .before .before .args .src) in
-    let e : l .i ≡ length x = omega arith in
-    l .inv .2 ∙ ap (puts d 0 (el x)) e ∙ puts-all d (el x) (length x) nan (omega arith) ∙ table-own nan x (length x) refl
+    let x = now (c .before .before .before .before .before .before .before .args .src) in
+    l .inv .2 ∙ whole d x (l .i) (omega arith) (omega arith)
 
 pub copy-spec : {M : Type 1} → statement M
 copy-spec =
@@ -105,9 +122,12 @@ copy-spec =
     μ-loop
     Inv-loop2
     μ-loop2
+    copy-four-requires
+    same-length
+    returns
     loop-holds
     add-loop
-    copy-four-requires
+    copy-four-requires-2
     add-i
     loop-less
     loop-again
@@ -119,5 +139,5 @@ copy-spec =
     add-i-2
     loop2-less
     loop2-again
-    same-length
-    returns)
+    same-length-2
+    returns-2)
