@@ -26,10 +26,12 @@ use Rattle.linear.specs.Calls.{numberOf, eliminationOf, rawOf}
 use Rattle.linear.proofs.Outcomes.{pivots-below, raw-succeeds}
 use Rattle.stages.specs.Layout.{Stage, PivotRows, factorsAt}
 use Rattle.stages.specs.Memory.{component, eliminationIn}
+use Rattle.attempts.specs.declared.Counted.{Counted}
 use Rattle.attempts.specs.declared.Marks.{Marks}
 use Rattle.attempts.specs.declared.Halt.{Halt}
 use Rattle.attempts.specs.declared.Halt.the-variants as halts
 use Rattle.attempts.specs.declared.Moved.{Moved}
+use Rattle.attempts.specs.Marks.{noting, counting, countingRhs}
 use Rattle.attempts.specs.Attempt.{Given, Scratch, Stopped, scratch, stopped, onMarks, halt, refuse, ask, askRhs, choose, provided, show}
 use Rattle.attempts.specs.Calls.{haltStop, movedMarks, movedStop, stopBy}
 
@@ -140,6 +142,28 @@ halt-stops (halts.Shows error) m w p = refl
 pub moved-stops : (r : Moved) (m : Marks) (w : List Float) (p : List ℕ) → stopped (stopBy r m) w p ≡ movedStop r (scratch m w p)
 unfolding stopBy movedStop onMarks
 moved-stops r m w p = halt-stops (r .halt) (movedMarks r m) w p
+
+-- ---- an open attempt counts no step as accepted or rejected
+
+-- no step is counted
+abbrev pub NoStep : Counted → Type 0
+NoStep c = (c .«accepted_steps» ≡ false) × (c .«rejected_steps» ≡ false)
+
+halt-no-step : (h : Halt) (x : Scratch) → NoStep (x .marks .counted) → NoStep (haltStop h x .stop .marks .counted)
+unfolding haltStop askRhs ask refuse halt onMarks noting counting countingRhs
+halt-no-step (halts.Derivative time) x n = n
+halt-no-step (halts.Jacobian time) x n = n
+halt-no-step (halts.TimePartial time) x n = n
+halt-no-step (halts.FirstProbe two first second) x n = n
+halt-no-step (halts.SecondProbe time) x n = n
+halt-no-step (halts.Column k time) x n = n
+halt-no-step (halts.Stage i time) x n = n
+halt-no-step (halts.Ends k) x n = n
+halt-no-step (halts.Shows error) x n = n
+
+pub no-step : (r : Moved) (m : Marks) → NoStep (m .counted) → NoStep (stopBy r m .marks .counted)
+unfolding stopBy movedStop onMarks movedMarks
+no-step r m n = halt-no-step (r .halt) (scratch (movedMarks r m) [] []) n
 
 -- ---- sizes
 

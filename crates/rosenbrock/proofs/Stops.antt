@@ -1,7 +1,8 @@
 -- The record and the answer where an open attempt stopped. Assumes nothing.
 use Prim.Native.Nat.{ℕ}
-use mathlib.Core.Path.{_≡_}
+use mathlib.Core.Path.{_≡_, sym, subst}
 use Rattle.attempts.specs.declared.Stop.{Stop}
+use Rattle.attempts.proofs.Links.{NoStep}
 use Rattle.refusals.specs.declared.Fixed.{Fixed}
 use Rattle.refusals.specs.declared.Progress.{Progress}
 use Rattle.statistics.specs.declared.StepStatistics.{StepStatistics}
@@ -39,3 +40,7 @@ pub settled-eq : (fx : Fixed) (x : Progress) (t : StepStatistics) (r : Stop) {u 
     → outcome fx x r request stage u a ≡ outcomeAfter fx x t r
 unfolding outcomeAfter progressAfter
 settled-eq fx x t r p q s h = λ i. outcome fx x r (p i) (q i) (s i) (h i)
+
+-- what counts no step, under another name
+pub no-step-counted : {r q : Stop} → r ≡ q → NoStep (q .marks .counted) → NoStep (r .marks .counted)
+no-step-counted e n = subst (λ (x : Stop). NoStep (x .marks .counted)) (sym e) n

@@ -1,6 +1,6 @@
 // The stepper's record and its calls.
 ghost use mathlib.Core.Path.{_≡_};
-ghost use mathlib.Core.Bool.{true};
+ghost use mathlib.Core.Bool.{true, false};
 ghost use Prim.Native.Nat.{min, _*_};
 ghost use lib.ListN.{length};
 ghost use Rattle.stages.specs.Layout.{neededWork};
@@ -67,6 +67,7 @@ fn answer_after(ending: Ending) -> Answer
 
 // The record where an open attempt stopped, and the answer.
 fn settled(fixed: Fixed, progress: Progress, statistics: StepStatistics, stop: Stop) -> Outcome
+    requires { ⌜ (stop .marks .counted .«accepted_steps» ≡ false) × (stop .marks .counted .«rejected_steps» ≡ false) ⌝ }
     ensures { λ r. ⌜ r ≡ outcomeAfter fixed progress statistics stop ⌝ }
 {
     let marks = stop.marks;

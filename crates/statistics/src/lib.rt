@@ -1,5 +1,6 @@
 // The counters of a stepper's record, and what a call adds to them.
 ghost use mathlib.Core.Path.{_≡_};
+ghost use mathlib.Core.Bool.{false};
 ghost use Rattle.statistics.specs.Counters.{oneMore, tallied, noStatistics};
 use attempts::Counted;
 
@@ -23,13 +24,15 @@ fn one_more(on: bool, count: u64) -> u64
     count
 }
 
+// What an open attempt counts. No step is: accept and reject count those.
 pub fn tallied(counted: Counted, statistics: StepStatistics) -> StepStatistics
+    requires { ⌜ (counted .«accepted_steps» ≡ false) × (counted .«rejected_steps» ≡ false) ⌝ }
     ensures { λ r. ⌜ r ≡ tallied counted statistics ⌝ }
 {
     let attempts = one_more(counted.attempts, statistics.attempts);
     let rhs_evaluations = one_more(counted.rhs_evaluations, statistics.rhs_evaluations);
-    let accepted_steps = one_more(counted.accepted_steps, statistics.accepted_steps);
-    let rejected_steps = one_more(counted.rejected_steps, statistics.rejected_steps);
+    let accepted_steps = statistics.accepted_steps;
+    let rejected_steps = statistics.rejected_steps;
     let jacobian_evaluations = one_more(
         counted.jacobian_evaluations,
         statistics.jacobian_evaluations,

@@ -1,4 +1,5 @@
 -- `rosenbrock::settled` meets its contract. Assumes nothing.
+use borrow.Author.Needs.{needs}
 use Rattle.rosenbrock.proofs.Stops.{settled-eq}
 use Rattle.rosenbrock.proofs.settled.Statement.{statement}
 use Rattle.rosenbrock.proofs.settled.Tie as tie
@@ -10,7 +11,7 @@ stage-after-requires : tie.Need-stage-after-requires
 stage-after-requires c κs = tt
 
 tallied-requires : tie.Need-tallied-requires
-tallied-requires c κs = tt
+tallied-requires c κs = search needs
 
 answer-after-requires : tie.Need-answer-after-requires
 answer-after-requires c κs = tt

@@ -1,5 +1,8 @@
 -- `statistics::tallied` meets its contract: counter by counter. Assumes nothing.
-use Rattle.statistics.specs.Counters.{tallied}
+use mathlib.Core.Path.{_≡_}
+use mathlib.Core.Bool.{Bool, false}
+use Prim.Native.Nat.{ℕ}
+use Rattle.statistics.specs.Counters.{oneMore, tallied}
 use Rattle.statistics.proofs.tallied.Statement.{statement}
 use Rattle.statistics.proofs.tallied.Tie as tie
 
@@ -18,23 +21,23 @@ one-more-requires-4 c κs = tt
 one-more-requires-5 : tie.Need-one-more-requires-5
 one-more-requires-5 c κs = tt
 
-one-more-requires-6 : tie.Need-one-more-requires-6
-one-more-requires-6 c κs = tt
-
-one-more-requires-7 : tie.Need-one-more-requires-7
-one-more-requires-7 c κs = tt
+-- nothing is counted
+none : {b : Bool} (k : ℕ) → b ≡ false → k ≡ oneMore b k
+unfolding oneMore
+none k h = rw h
 
 returns : tie.Need-returns
 unfolding tallied
 returns c =
+    let s = c .before .before .before .before .before in
     λ i. record {
-      attempts = c .before .before .before .before .before .before .one-more .ensures i;
-      «rhs_evaluations» = c .before .before .before .before .before .one-more2 .ensures i;
-      «accepted_steps» = c .before .before .before .before .one-more3 .ensures i;
-      «rejected_steps» = c .before .before .before .one-more4 .ensures i;
-      «jacobian_evaluations» = c .before .before .one-more5 .ensures i;
-      factorizations = c .before .one-more6 .ensures i;
-      «linear_solves» = c .one-more7 .ensures i;
+      attempts = c .before .before .before .before .one-more .ensures i;
+      «rhs_evaluations» = c .before .before .before .one-more2 .ensures i;
+      «accepted_steps» = none (s .args .statistics .«accepted_steps») (s .pre .0) i;
+      «rejected_steps» = none (s .args .statistics .«rejected_steps») (s .pre .1) i;
+      «jacobian_evaluations» = c .before .before .one-more3 .ensures i;
+      factorizations = c .before .one-more4 .ensures i;
+      «linear_solves» = c .one-more5 .ensures i;
     }
 
 pub tallied-spec : {M : Type 1} → statement M
@@ -46,6 +49,4 @@ tallied-spec =
     one-more-requires-3
     one-more-requires-4
     one-more-requires-5
-    one-more-requires-6
-    one-more-requires-7
     returns)

@@ -1,8 +1,10 @@
 -- `rosenbrock::RosenbrockStepper::replied` meets its contract: case by case. Assumes nothing.
 use borrow.Author.Needs.{needs}
-use mathlib.Core.Path.{sym, ap, _∙_}
+use mathlib.Core.Path.{refl, sym, ap, _∙_}
 use Rattle.attempts.specs.declared.Stop.{Stop}
+use Rattle.attempts.proofs.Links.{no-step}
 use Rattle.rosenbrock.specs.Contracts.{outcomeAfter, replied}
+use Rattle.rosenbrock.proofs.Stops.{no-step-counted}
 use Rattle.rosenbrock.proofs.RosenbrockStepper.replied.Statement.{statement}
 use Rattle.rosenbrock.proofs.RosenbrockStepper.replied.Tie as tie
 
@@ -16,7 +18,7 @@ stop-of-requires : tie.Need-stop-of-requires
 stop-of-requires c κs = tt
 
 settled-requires : tie.Need-settled-requires
-settled-requires c κs = tt
+settled-requires c κs = no-step-counted (c .stop-of .ensures) (no-step _ _ (refl, refl))
 
 returns : tie.Need-returns
 unfolding replied

@@ -1,11 +1,13 @@
 -- `rosenbrock::RosenbrockStepper::replied_attempt` meets its contract: case by case. Assumes nothing.
 use borrow.Author.Needs.{needs}
-use mathlib.Core.Path.{sym, ap, _∙_}
+use mathlib.Core.Path.{refl, sym, ap, _∙_}
 use Rattle.attempts.specs.declared.Moved.{Moved}
 use Rattle.attempts.specs.Marks.{oneAttempt}
 use Rattle.attempts.specs.Calls.{stopBy, marked}
 use Rattle.refusals.specs.declared.Progress.{Progress}
+use Rattle.attempts.proofs.Links.{no-step}
 use Rattle.rosenbrock.specs.Contracts.{outcomeAfter, repliedAttempt}
+use Rattle.rosenbrock.proofs.Stops.{no-step-counted}
 use Rattle.rosenbrock.proofs.RosenbrockStepper.replied_attempt.Statement.{statement}
 use Rattle.rosenbrock.proofs.RosenbrockStepper.replied_attempt.Tie as tie
 
@@ -22,7 +24,7 @@ stop-of-requires : tie.Need-stop-of-requires
 stop-of-requires c κs = tt
 
 settled-requires : tie.Need-settled-requires
-settled-requires c κs = tt
+settled-requires c κs = no-step-counted (c .stop-of .ensures) (no-step _ _ (refl, refl))
 
 returns : tie.Need-returns
 unfolding repliedAttempt
