@@ -6,7 +6,7 @@ use mathlib.Core.Bool.{Bool, true, false, _&&_}
 use mathlib.Core.List.{List}
 use lib.Dec.{eqb, leb}
 use lib.ListN.{length, getD}
-use borrow.Author.Tests.{leb-true, eq-eqb, ne-eqb}
+use borrow.Author.Tests.{leb-true, eqb-true, eq-eqb, ne-eqb}
 use Rattle.float.proofs.Cases.{yes, no, both, and-no, and-no-right, and-left, and-right}
 use Rattle.vector.specs.Lists.{every}
 use Rattle.stepping.proofs.Refusals.{is-refused, is-answered}
@@ -87,6 +87,14 @@ module _ (file : List ℕ) where
             let L : length file ≡ place (howMany K) = l ∙ long-is in
             let m : length (coefficientsOf file) ≡ howMany K = omega (arith, length-coefficients file) in
             yes _ (accepts-is ∙ both (both (ap inRange (sym e) ∙ sym R ∙ p) (both (eq-eqb (length (coefficientsOf file)) (howMany K) m) (sym A ∙ s))) (both (eq-eqb (length file) (place (howMany K)) L) (sym headed-is ∙ q))) refl
+
+-- a file that says how many stages it has, and that it has btilde
+module _ (file : List ℕ) (stages : ℕ) {r : Bool} (R : r ≡ (eqb (number file 0) stages && eqb (number file 3) 1)) (h : r ≡ true) where
+  pub said-stages : number file 0 ≡ stages
+  said-stages = eqb-true (number file 0) stages (and-left (eqb (number file 0) stages) _ (sym R ∙ h))
+
+  pub said-btilde : number file 3 ≡ 1
+  said-btilde = eqb-true (number file 3) 1 (and-right (eqb (number file 0) stages) _ (sym R ∙ h))
 
 -- a file with btilde, as long as its stages ask for, by their number and that of its coefficients
 module _ (file : List ℕ) (stages coefficients : ℕ) (l : length file ≡ 48 + 8 * coefficients) (m : coefficients ≡ btildeAt stages + stages) where

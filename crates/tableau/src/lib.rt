@@ -1,6 +1,8 @@
 // The tableau file: its check, its counts and coefficients, and whether two files hold one tableau.
 ghost use mathlib.Core.Path.{_≡_};
+ghost use mathlib.Core.Bool.{_&&_};
 ghost use Prim.Native.Nat.{ℕ, _+_, _-_, _*_, _/_, _≤_, _<_};
+ghost use lib.Dec.{eqb};
 ghost use lib.ListN.{length};
 ghost use lib.Ieee.{binary64, ofBits};
 ghost use Rattle.vector.specs.Lists.{el, every};
@@ -12,10 +14,12 @@ use stepping::TABLEAU_FILE;
 // The bytes before the first coefficient.
 const HEADER: usize = 48;
 
-// The bytes of a file with btilde: five coefficients at one stage, 29 at four.
+// The bytes of a file with btilde: 5 coefficients at one stage, 29 at four, 89 at eight.
 const ONE_STAGE: usize = 88;
 
 const FOUR_STAGES: usize = 280;
+
+const EIGHT_STAGES: usize = 760;
 
 // kind: 0 Rosenbrock, 1 hybrid. estimator: 0 embedded, 1 step doubling. btilde: 1 where it is
 // present, 0 where it is not.
@@ -214,23 +218,31 @@ fn check_stages(file: &[u8]) -> u32
     TABLEAU_FILE
 }
 
-// 0 for a tableau file, 12 for anything else. One stage and four stages with btilde are checked by number:
-// the check of the file is a large part of a supply's tests.
+// Whether the file says that it has so many stages, and btilde.
+fn says(file: &[u8], stages: usize) -> bool
+    ensures { λ r. ⌜ r ≡ (eqb (number (now (file .entry)) 0) stages && eqb (number (now (file .entry)) 3) 1) ⌝ }
+{
+    float::both(number(file, 0) == stages, number(file, 3) == 1)
+}
+
+// 0 for a tableau file, 12 for anything else. One, four and eight stages with btilde are checked by number:
+// every supply checks the file, and this is a large part of its tests.
 pub fn check(file: &[u8]) -> u32
     ensures { λ r. ⌜ r ≡ check (now (file .entry)) ⌝ }
 {
     if file.len() == ONE_STAGE {
-        if number(file, 0) == 1 {
-            if number(file, 3) == 1 {
-                return check_by_number(file, 1, 5);
-            }
+        if says(file, 1) {
+            return check_by_number(file, 1, 5);
         }
     }
     if file.len() == FOUR_STAGES {
-        if number(file, 0) == 4 {
-            if number(file, 3) == 1 {
-                return check_by_number(file, 4, 29);
-            }
+        if says(file, 4) {
+            return check_by_number(file, 4, 29);
+        }
+    }
+    if file.len() == EIGHT_STAGES {
+        if says(file, 8) {
+            return check_by_number(file, 8, 89);
         }
     }
     check_stages(file)
