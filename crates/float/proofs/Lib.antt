@@ -5,7 +5,6 @@ pub mod Own
 pub mod Patterns
 pub mod Order
 pub mod Zeros
-pub mod Maxima
 pub mod Numbers
 pub mod Edges
 pub mod Negatives

@@ -53,42 +53,14 @@ fn largest_of(matrix: &[f64], count: usize) -> f64
     scale
 }
 
-// The largest magnitude of four blocks of `size` entries, one after the other. Each block has a maximum
-// of its own, so that none waits for the last of another.
-fn largest_of_blocks(matrix: &[f64], size: usize) -> f64
-    requires { ⌜ 4 * size ≤ length (now matrix) ⌝ }
-    ensures { λ r. ⌜ r ≡ largest (now (matrix .entry)) (4 * size) ⌝ }
-{
-    let mut a = 0.0;
-    let mut b = 0.0;
-    let mut c = 0.0;
-    let mut d = 0.0;
-    let mut i = 0;
-    while i < size {
-        a = larger(a, float::abs(matrix[i]));
-        b = larger(b, float::abs(matrix[size + i]));
-        c = larger(c, float::abs(matrix[2 * size + i]));
-        d = larger(d, float::abs(matrix[3 * size + i]));
-        i += 1;
-    }
-    larger(larger(a, b), larger(c, d))
-}
-
-// The largest magnitude of a matrix.
+// The largest magnitude of a matrix. Sixteen entries take no loop: the compiler writes them out.
 fn largest_magnitude(matrix: &[f64]) -> f64
     ensures { λ r. ⌜ r ≡ scale (now (matrix .entry)) ⌝ }
 {
-    // sixteen entries by number: the compiler writes the loop out
     if matrix.len() == 16 {
-        return largest_of_blocks(matrix, 4);
+        return largest_of(matrix, 16);
     }
-    // blocks this short cost more than they save
-    if matrix.len() < 16 {
-        return largest_of(matrix, matrix.len());
-    }
-    let size = matrix.len() / 4;
-    let blocks = largest_of_blocks(matrix, size);
-    larger(blocks, largest_of(&matrix[4 * size..], matrix.len() % 4))
+    largest_of(matrix, matrix.len())
 }
 
 // What a pivot has to exceed.
