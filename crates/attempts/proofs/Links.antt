@@ -26,12 +26,11 @@ use Rattle.linear.specs.Calls.{numberOf, eliminationOf, rawOf}
 use Rattle.linear.proofs.Outcomes.{pivots-below, raw-succeeds}
 use Rattle.stages.specs.Layout.{Stage, PivotRows, factorsAt}
 use Rattle.stages.specs.Memory.{component, eliminationIn}
-use Rattle.attempts.specs.declared.Counted.{Counted}
 use Rattle.attempts.specs.declared.Marks.{Marks}
 use Rattle.attempts.specs.declared.Halt.{Halt}
 use Rattle.attempts.specs.declared.Halt.the-variants as halts
 use Rattle.attempts.specs.declared.Moved.{Moved}
-use Rattle.attempts.specs.Marks.{noting, counting, countingRhs}
+use Rattle.attempts.specs.Marks.{NoStep, noting, counting, countingRhs}
 use Rattle.attempts.specs.Attempt.{Given, Scratch, Stopped, scratch, stopped, onMarks, halt, refuse, ask, askRhs, choose, provided, show}
 use Rattle.attempts.specs.Calls.{haltStop, movedMarks, movedStop, stopBy}
 
@@ -144,10 +143,6 @@ unfolding stopBy movedStop onMarks
 moved-stops r m w p = halt-stops (r .halt) (movedMarks r m) w p
 
 -- ---- an open attempt counts no step as accepted or rejected
-
--- no step is counted
-abbrev pub NoStep : Counted → Type 0
-NoStep c = (c .«accepted_steps» ≡ false) × (c .«rejected_steps» ≡ false)
 
 halt-no-step : (h : Halt) (x : Scratch) → NoStep (x .marks .counted) → NoStep (haltStop h x .stop .marks .counted)
 unfolding haltStop askRhs ask refuse halt onMarks noting counting countingRhs

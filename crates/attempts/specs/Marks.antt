@@ -1,4 +1,5 @@
 -- What an open attempt notes: in the record's memo, and what is to be counted. Definitions only.
+use mathlib.Core.Path.{_≡_}
 use mathlib.Core.Bool.{Bool, true, false}
 use lib.Ieee.{Float}
 use Rattle.float.specs.Operators.{𝟎}
@@ -76,6 +77,10 @@ oneAccepted = counted false false true false false false false
 
 abbrev pub oneRejected : Counted
 oneRejected = counted false false false true false false false
+
+-- no step is counted, accepted or rejected
+abbrev pub NoStep : Counted → Type 0
+NoStep c = (c .«accepted_steps» ≡ false) × (c .«rejected_steps» ≡ false)
 
 unfoldable pub countingRhs : Counted → Counted
 countingRhs c =

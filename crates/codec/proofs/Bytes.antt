@@ -1,13 +1,16 @@
 -- Four and eight bytes as the code puts them together, and what the upper four tell of a double. Assumes nothing.
-use Prim.Native.Nat.{ℕ, suc, _+_, _*_, _/_, _%_, _^_, _<_}
+use Prim.Native.Nat.{ℕ, suc, _+_, _*_, _/_, _%_, _<_}
 use native.Mathlib.Omega.{arith}
 use mathlib.Core.Path.{_≡_, sym, subst, _∙_}
 use mathlib.Core.Bool.{Bool, not}
 use mathlib.Core.List.{List}
-use lib.Dec.{T, ltb, ltb→lt, not-T}
+use lib.Dec.{T}
 use lib.ListN.{getD}
-use lib.Ieee.{binary64, nanBits}
-use lib.Ieee.Bits.{nanBits-above}
+use lib.Ieee.{binary64, ofBits, nanBits}
+use lib.Ieee.Bits.{nanBits-is}
+use borrow.Author.Tests.{lt-ltb}
+use Rattle.float.proofs.Laws.{finite-not-nan}
+use Rattle.float.proofs.Patterns.{finite-bits}
 use Rattle.codec.specs.Little.{little}
 
 module _ (s : List ℕ) (at : ℕ) where
@@ -29,9 +32,8 @@ module _ (s : List ℕ) (at : ℕ) where
 pub upper-half : {lo hi h : ℕ} → lo < 0x1_0000_0000 → hi ≡ h → (lo + 0x1_0000_0000 * hi) / 0x1_0000_0000 ≡ h
 upper-half l q = omega arith
 
--- the exponent in the upper half is not all ones: a finite double
-pub finite-bits : (b : ℕ) {h u : ℕ} → b / 0x1_0000_0000 ≡ h → u ≡ h → u % 0x8000_0000 < 0x7ff0_0000 → T (not (nanBits binary64 b))
-finite-bits b e f k = subst (λ (t : Bool). T (not t)) (sym (nanBits-above binary64 b)) (not-T (ltb 0x7ff0_0000_0000_0000 (b % 2 ^ 63)) (λ g. clash (ltb→lt 0x7ff0_0000_0000_0000 (b % 2 ^ 63) g)))
-  where
-    clash : 0x7ff0_0000_0000_0000 < b % 2 ^ 63 → ⊥
-    clash g = omega arith
+-- the exponent in the upper half is not all ones: a finite double, and no NaN
+pub upper-finite : (b : ℕ) {h u : ℕ} → b / 0x1_0000_0000 ≡ h → u ≡ h → u % 0x8000_0000 < 0x7ff0_0000 → T (not (nanBits binary64 b))
+upper-finite b e f k =
+    let l : b % 0x8000_0000_0000_0000 < 0x7ff0_0000_0000_0000 = omega arith in
+    subst (λ (t : Bool). T (not t)) (sym (nanBits-is binary64 b)) (finite-not-nan (ofBits binary64 b) (finite-bits b ∙ lt-ltb (b % 0x8000_0000_0000_0000) 0x7ff0_0000_0000_0000 l))

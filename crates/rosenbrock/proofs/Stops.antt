@@ -2,7 +2,7 @@
 use Prim.Native.Nat.{ℕ}
 use mathlib.Core.Path.{_≡_, sym, subst}
 use Rattle.attempts.specs.declared.Stop.{Stop}
-use Rattle.attempts.proofs.Links.{NoStep}
+use Rattle.attempts.specs.Marks.{NoStep}
 use Rattle.refusals.specs.declared.Fixed.{Fixed}
 use Rattle.refusals.specs.declared.Progress.{Progress}
 use Rattle.statistics.specs.declared.StepStatistics.{StepStatistics}

@@ -1,9 +1,10 @@
 // The stepper's record and its calls.
 ghost use mathlib.Core.Path.{_≡_};
-ghost use mathlib.Core.Bool.{true, false};
+ghost use mathlib.Core.Bool.{true};
 ghost use Prim.Native.Nat.{min, _*_};
 ghost use lib.ListN.{length};
 ghost use Rattle.stages.specs.Layout.{neededWork};
+ghost use Rattle.attempts.specs.Marks.{NoStep};
 ghost use Rattle.refusals.specs.Tests.{shapeFits};
 ghost use Rattle.refusals.specs.Answers.{lending};
 ghost use Rattle.rosenbrock.specs.Calls.{attemptBy};
@@ -67,7 +68,7 @@ fn answer_after(ending: Ending) -> Answer
 
 // The record where an open attempt stopped, and the answer.
 fn settled(fixed: Fixed, progress: Progress, statistics: StepStatistics, stop: Stop) -> Outcome
-    requires { ⌜ (stop .marks .counted .«accepted_steps» ≡ false) × (stop .marks .counted .«rejected_steps» ≡ false) ⌝ }
+    requires { ⌜ NoStep (stop .marks .counted) ⌝ }
     ensures { λ r. ⌜ r ≡ outcomeAfter fixed progress statistics stop ⌝ }
 {
     let marks = stop.marks;

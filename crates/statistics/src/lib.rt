@@ -1,6 +1,6 @@
 // The counters of a stepper's record, and what a call adds to them.
 ghost use mathlib.Core.Path.{_≡_};
-ghost use mathlib.Core.Bool.{false};
+ghost use Rattle.attempts.specs.Marks.{NoStep};
 ghost use Rattle.statistics.specs.Counters.{oneMore, tallied, noStatistics};
 use attempts::Counted;
 
@@ -26,7 +26,7 @@ fn one_more(on: bool, count: u64) -> u64
 
 // What an open attempt counts. No step is: accept and reject count those.
 pub fn tallied(counted: Counted, statistics: StepStatistics) -> StepStatistics
-    requires { ⌜ (counted .«accepted_steps» ≡ false) × (counted .«rejected_steps» ≡ false) ⌝ }
+    requires { ⌜ NoStep counted ⌝ }
     ensures { λ r. ⌜ r ≡ tallied counted statistics ⌝ }
 {
     let attempts = one_more(counted.attempts, statistics.attempts);

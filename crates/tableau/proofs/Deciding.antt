@@ -96,18 +96,20 @@ module _ (file : List ℕ) (stages : ℕ) {r : Bool} (R : r ≡ (eqb (number fil
   pub said-btilde : number file 3 ≡ 1
   said-btilde = eqb-true (number file 3) 1 (and-right (eqb (number file 0) stages) _ (sym R ∙ h))
 
--- a file with btilde, as long as its stages ask for, by their number and that of its coefficients
-module _ (file : List ℕ) (stages coefficients : ℕ) (l : length file ≡ 48 + 8 * coefficients) (m : coefficients ≡ btildeAt stages + stages) where
-  pub counts-by-number : {kind estimator : ℕ} → number file 0 ≡ stages → number file 3 ≡ 1 → kind ≡ number file 1 → estimator ≡ number file 2 → withBtilde stages kind estimator ≡ countsOf file
+-- a file with btilde, by the numbers of its stages and of its coefficients
+module _ (file : List ℕ) where
+  pub counts-by-number : (stages : ℕ) {kind estimator : ℕ} → number file 0 ≡ stages → number file 3 ≡ 1 → kind ≡ number file 1 → estimator ≡ number file 2 → withBtilde stages kind estimator ≡ countsOf file
   unfolding countsOf
-  counts-by-number s b k e = rw (s, b, k, e)
+  counts-by-number stages s b k e = rw (s, b, k, e)
 
-  pub length-by-number : (kind estimator : ℕ) {head : List ℕ} → head ≡ header (withBtilde stages kind estimator) → length file ≡ getD head 11 0
-  unfolding howMany ifPresent
-  length-by-number kind estimator H = l ∙ ap place m ∙ sym (ap (λ (n : List ℕ). getD n 11 0) H ∙ last-is (withBtilde stages kind estimator))
+  -- it is as long as they ask for
+  module _ (coefficients : ℕ) (l : length file ≡ 48 + 8 * coefficients) where
+    pub length-by-number : (stages kind estimator : ℕ) {head : List ℕ} → coefficients ≡ btildeAt stages + stages → head ≡ header (withBtilde stages kind estimator) → length file ≡ getD head 11 0
+    unfolding howMany ifPresent
+    length-by-number stages kind estimator m H = l ∙ ap place m ∙ sym (ap (λ (n : List ℕ). getD n 11 0) H ∙ last-is (withBtilde stages kind estimator))
 
-  pub allowed-by-number : {a : Bool} → a ≡ every coefficients (allowedAt (coefficientsOf file)) → a ≡ every (length (coefficientsOf file)) (allowedAt (coefficientsOf file))
-  allowed-by-number A = A ∙ ap (λ (n : ℕ). every n (allowedAt (coefficientsOf file))) (omega (arith, length-coefficients file, l))
+    pub allowed-by-number : {a : Bool} → a ≡ every coefficients (allowedAt (coefficientsOf file)) → a ≡ every (length (coefficientsOf file)) (allowedAt (coefficientsOf file))
+    allowed-by-number A = A ∙ ap (λ (n : ℕ). every n (allowedAt (coefficientsOf file))) (omega (arith, length-coefficients file, l))
 
 module _ (x y : List ℕ) {j : ℕ} (e : j ≡ check x) where
   pub first-refused : (j ≡ 0 → ⊥) → Refused j ≡ same x y

@@ -36,28 +36,27 @@ pub fn asked_at<'a>(record: &Record, memory: &'a Memory, ask: Ask) -> (f64, &'a 
 /// The step that a pending candidate belongs to.
 pub fn view<'a>(record: &Record, memory: &'a Memory) -> RosenbrockStepView<'a> {
     let progress = &record.progress;
-    let (n, s) = (record.fixed.n, record.fixed.s);
-    let (vectors, rest) = memory.work.split_at(8 * n);
-    let mut view = RosenbrockStepView {
+    let shown = |which| {
+        if progress.step == 0.0 {
+            &[]
+        } else {
+            part(record, memory, which)
+        }
+    };
+    let error = progress.memo.error_shown;
+    RosenbrockStepView {
         previous_state: &memory.state,
         start_time: progress.time,
         end_time: progress.end,
-        candidate: &vectors[..n],
-        component_error: progress.memo.error_shown.then(|| &vectors[n..2 * n]),
-        solved_stages: &[],
-        stage_derivatives: &[],
-        jacobian: &[],
-        time_partial: &[],
+        candidate: part(record, memory, Part::Candidate),
+        component_error: error.then(|| part(record, memory, Part::Error)),
+        solved_stages: shown(Part::Stages),
+        stage_derivatives: shown(Part::RhsStages),
+        jacobian: shown(Part::Jacobian),
+        time_partial: shown(Part::TimePartial),
         statistics: record.statistics,
-        dimension: n,
-    };
-    if progress.step != 0.0 {
-        let (matrices, stages) = rest.split_at(2 * n * n);
-        (view.solved_stages, view.stage_derivatives) = stages.split_at(s * n);
-        view.jacobian = &matrices[..n * n];
-        view.time_partial = &vectors[4 * n..5 * n];
+        dimension: record.fixed.n,
     }
-    view
 }
 
 /// The parts of the work, in their order.

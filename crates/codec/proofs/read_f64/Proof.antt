@@ -2,7 +2,7 @@
 use mathlib.Core.Path.{ap, _∙_}
 use lib.Ieee.{binary64, ofBits}
 use borrow.Author.Needs.{needs}
-use Rattle.codec.proofs.Bytes.{finite-bits}
+use Rattle.codec.proofs.Bytes.{upper-finite}
 use Rattle.codec.proofs.read_f64.Statement.{statement}
 use Rattle.codec.proofs.read_f64.Tie as tie
 
@@ -16,7 +16,7 @@ read-u64-requires : tie.Need-read-u64-requires
 read-u64-requires c κs = search needs
 
 float-from-bits-result : tie.Need-float-from-bits-result
-float-from-bits-result c = finite-bits (c .read-u64 .result) (c .read-u64 .ensures .1) (c .before .before .read-u32 .ensures) (c .before .if1 .taken)
+float-from-bits-result c = upper-finite (c .read-u64 .result) (c .read-u64 .ensures .1) (c .before .before .read-u32 .ensures) (c .before .if1 .taken)
 
 returns : tie.Need-returns
 returns c = ap (ofBits binary64) (c .read-u64 .ensures .0)

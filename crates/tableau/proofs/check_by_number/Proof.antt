@@ -20,7 +20,7 @@ returns : tie.Need-returns
 returns c =
     let s = c .before .before .before .before .before in
     let file = now (s .args .file) in
-    let e = counts-by-number file _ _ (s .pre .0) (s .pre .1) (s .pre .2) (s .pre .3) (c .before .before .before .number .ensures) (c .before .before .number2 .ensures) in
+    let e = counts-by-number file _ (s .pre .2) (s .pre .3) (c .before .before .before .number .ensures) (c .before .before .number2 .ensures) in
     out-of-range file e (c .before .in-range .ensures) (not-true _ (c .if1 .taken))
 
 header-requires : tie.Need-header-requires
@@ -34,7 +34,7 @@ returns-2 c =
     let d = c .before .before .before .before .before in
     let s = d .before .before .before .before in
     let file = now (s .args .file) in
-    let e = counts-by-number file _ _ (s .pre .0) (s .pre .1) (s .pre .2) (s .pre .3) (d .before .before .number .ensures) (d .before .number2 .ensures) in
+    let e = counts-by-number file _ (s .pre .2) (s .pre .3) (d .before .before .number .ensures) (d .before .number2 .ensures) in
     other-numbers file e (d .in-range .ensures) (c .before .before .before .header .ensures) (c .before .headed .ensures) (not-true _ (c .if2 .taken))
 
 first-allowed-requires : tie.Need-first-allowed-requires
@@ -45,15 +45,15 @@ returns-3 c =
     let d = c .before .before .before .before .before .before .before in
     let s = d .before .before .before .before in
     let file = now (s .args .file) in
-    let e = counts-by-number file _ _ (s .pre .0) (s .pre .1) (s .pre .2) (s .pre .3) (d .before .before .number .ensures) (d .before .number2 .ensures) in
+    let e = counts-by-number file _ (s .pre .2) (s .pre .3) (d .before .before .number .ensures) (d .before .number2 .ensures) in
     let h = c .before .before .before .before .before .header .ensures in
-    all-right file e (d .in-range .ensures) h (c .before .before .before .headed .ensures) (allowed-by-number file _ _ (s .pre .0) (s .pre .1) (c .before .first-allowed .ensures)) (not-false _ (c .before .before .before .before .before .before .if1 .left)) (length-by-number file _ _ (s .pre .0) (s .pre .1) _ _ h) (not-false _ (c .before .before .if2 .left)) (c .if3 .taken)
+    all-right file e (d .in-range .ensures) h (c .before .before .before .headed .ensures) (allowed-by-number file _ (s .pre .0) (c .before .first-allowed .ensures)) (not-false _ (c .before .before .before .before .before .before .if1 .left)) (length-by-number file _ (s .pre .0) _ _ _ (s .pre .1) h) (not-false _ (c .before .before .if2 .left)) (c .if3 .taken)
 
 returns-4 : tie.Need-returns-4
 returns-4 c =
     let s = c .before .before .before .before .before .before .before .before .before .before .before in
     let file = now (s .args .file) in
-    not-allowed file (allowed-by-number file _ _ (s .pre .0) (s .pre .1) (c .before .first-allowed .ensures)) (c .if3 .left)
+    not-allowed file (allowed-by-number file _ (s .pre .0) (c .before .first-allowed .ensures)) (c .if3 .left)
 
 pub check-by-number-spec : {M : Type 1} → statement M
 check-by-number-spec =
