@@ -1,0 +1,18 @@
+-- A buffer that is filled from the front. Assumes nothing.
+use Prim.Native.Nat.{ℕ, ◌+◌, ◌-◌, ◌≤◌}
+use mathlib.Core.Path.{◌≡◌, sym, ap, ◌∙◌}
+use mathlib.Core.List.{List, ◌++◌}
+use lib.ListN.{length, take}
+use lib.Seq.{take-append-le, take-append-add, length-take-le}
+use borrow.Rule.Slice.PartMut.{put_mid, post_of}
+
+-- what a read puts into the rest of a buffer comes after what stands before it
+pub front_grows : (from n : ℕ) (buf part : List ℕ) → from ≤ length buf → n ≤ length part
+    → take from buf ++ take n part ≡ take (from + n) (put_mid from (length buf - from) buf part)
+front_grows from n buf part within fits =
+    let front = take from buf in
+    let rest = part ++ post_of from (length buf - from) buf in
+    let long : length front ≡ from = length-take-le from buf within in
+    ap (λ (l : List ℕ). front ++ l) (sym (take-append-le n part (post_of from (length buf - from) buf) fits))
+    ∙ sym (take-append-add front rest n)
+    ∙ ap (λ (m : ℕ). take (m + n) (front ++ rest)) long
