@@ -7,14 +7,14 @@ ghost use Rattle.initial_step.specs.Norm.{ratio, square, raised, summed, added, 
 ghost use Rattle.initial_step.specs.First.{all_above, undirected, input_tests, slight, unbounded, guess, proposed, initial_step};
 
 // The first step, or the number of a refusal.
-#[derive(Drop)]
+#[derive(Clone, Copy)]
 pub enum FirstStep {
     Step(f64),
     Refused(u32),
 }
 
 // The largest ratio so far, and the sum of the squares in units of its square.
-#[derive(Drop)]
+#[derive(Clone, Copy)]
 pub struct ScaledSum {
     pub largest: f64,
     pub sum: f64,

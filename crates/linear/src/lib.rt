@@ -13,7 +13,7 @@ ghost use Rattle.linear.specs.Substitution.{lower, upper, exchanged, interchange
 ghost use Rattle.linear.specs.Calls.{square, outcome, elimination_of, raw_of, factorize_of, Solvable, solved, solve_of};
 
 // What a factorization answers: the factors are in place, or the number of a refusal.
-#[derive(Drop)]
+#[derive(Clone, Copy)]
 pub enum Factorization {
     Factored,
     Refused(u32),

@@ -10,7 +10,7 @@ ghost use Rattle.float.specs.Methods.{finite_positive};
 ghost use Rattle.norm.specs.ScaledErrorNorm.{scaled_error_norm};
 
 // The norm, or the number of a refusal.
-#[derive(Drop)]
+#[derive(Clone, Copy)]
 pub enum Norm {
     Value(f64),
     Refused(u32),

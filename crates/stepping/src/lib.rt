@@ -48,14 +48,14 @@ pub const ATTEMPT_OPEN: u32 = 18;
 pub const HOST_FAILURE: u32 = 19;
 
 // A time reached, or the number of a refusal.
-#[derive(Drop)]
+#[derive(Clone, Copy)]
 pub enum Checked {
     At(f64),
     Refused(u32),
 }
 
 // A step to take, or the number of a refusal.
-#[derive(Drop)]
+#[derive(Clone, Copy)]
 pub enum Endpoint {
     Step(f64),
     Refused(u32),
