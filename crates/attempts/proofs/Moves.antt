@@ -1,6 +1,6 @@
 -- What an open attempt moved, in the terms of the definitions. Assumes nothing.
 use Prim.Native.Nat.{ℕ}
-use mathlib.Core.Path.{◌≡◌, refl, sym, ap, ◌∙◌}
+use mathlib.Core.Path.{◌≡◌, sym, ap, ◌∙◌}
 use mathlib.Core.Bool.{true, false, or-true}
 use mathlib.Core.List.{List}
 use lib.Ieee.{Float}

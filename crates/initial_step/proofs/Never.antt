@@ -19,7 +19,7 @@ use borrow.Author.Tests.{eqb-true, not-false}
 use Rattle.float.specs.Operators.{◌⊗◌, ◌⊘◌, 𝟎, 𝟏}
 use Rattle.float.specs.Constants.{ten⁻⁵, ten⁻⁶, hundredth}
 use Rattle.float.specs.Methods.{abs, min_num}
-use Rattle.float.proofs.Cases.{no, holds, never, or_left, or_right}
+use Rattle.float.proofs.Cases.{holds, or_left, or_right}
 use Rattle.float.proofs.Own.{fit}
 use Rattle.float.proofs.Positive.{above-finite, positive-finite, positive_some, over_zero, smaller, div_some}
 use Rattle.float.proofs.Order.{not_lt_le}

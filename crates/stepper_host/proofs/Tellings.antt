@@ -11,7 +11,7 @@ use Rattle.readers.specs.declared.Told.TheVariants.{Number, State, Part, Absent,
 use Rattle.readers.specs.Telling.{tells, copied, counters_told}
 use Rattle.stepper_host.specs.declared.ReadingAnswer.{ReadingAnswer}
 use Rattle.stepper_host.specs.declared.StatisticsAnswer.{StatisticsAnswer}
-use Rattle.stepper_host.specs.Readings.{number_asked, of_told, kind_asked, told_by, HandsOut, refusal_of, counters_of, replied, statistics_handed, CopyHanded, copy_handed, copy_as_numbers}
+use Rattle.stepper_host.specs.Readings.{number_asked, of_told, kind_asked, told_by, HandsOut, refusal_of, counters_of, replied, statistics_handed, copy_handed, copy_as_numbers}
 
 pub asked_handed : (value : Float) (kind at count : ℕ) {k j : ℕ} → k ≡ j
     → ◌≡◌ {A = ReadingAnswer} (record { kind = kind; number = 0; asked = k; value = value; at = at; count = count }) (record { kind = kind; number = 0; asked = j; value = value; at = at; count = count })
