@@ -7,15 +7,14 @@ use lib.ListN.{length}
 use lib.Ieee.{Float}
 use Rattle.vector.specs.Lists.{el}
 use Rattle.vector.proofs.Stores.{length-puts}
-use Rattle.time_difference.specs.declared.Probes.{Probes}
-use Rattle.time_difference.specs.declared.Probes.TheVariants.{One, Two, Refused}
+use Rattle.std.specs.Prelude.{Option, Result, Ok, Err}
+use Rattle.stepping.specs.declared.Refusal.{Refusal}
 use Rattle.stages.proofs.Lengths.{length_stage_state, length_stage_solved, length_stage_added, length_matrix, length_factors, length_pivots}
 use Rattle.differentiation.proofs.Lengths.{length_probe_state, length_column, length_partial}
-use Rattle.attempts.specs.declared.Marks.{Marks}
 use Rattle.attempts.specs.declared.Ask.{Ask}
 use Rattle.attempts.specs.declared.Ask.TheVariants.{Derivative, Jacobian, TimePartial, FirstProbe, SecondProbe, Column, Stage}
-use Rattle.attempts.specs.declared.Ending.{Ending}
-use Rattle.attempts.specs.Attempt.{Given, Scratch, Stopped, on_work, on_marks, halt, refuse, ask, ask_rhs, choose, provided, show, finish, ask_stage, open_stage, next_stage, solve_stage, first_stage, factor, partial_done, combine, ask_first_probe, ask_partial, jacobian_done, open_column, next_column, ask_jacobian, differentiate, begun, evaluate, start, written, resume}
+use Rattle.attempts.specs.Marks.{Marks}
+use Rattle.attempts.specs.Attempt.{Ending, Given, Scratch, Stopped, on_work, on_marks, halt, refuse, ask, ask_rhs, choose, provided, show, finish, ask_stage, open_stage, next_stage, solve_stage, first_stage, factor, partial_done, combine, ask_first_probe, ask_partial, jacobian_done, open_column, next_column, ask_jacobian, differentiate, begun, evaluate, start, written, resume}
 
 -- k doubles of work and l pivots, while it goes on and where it has stopped
 pub record Long (k l : ℕ) (x : Scratch) : Type 0 where
@@ -39,7 +38,7 @@ module _ (k l : ℕ) where
   unfolding halt
   halt_keeps e x h = record { of_work = h.of_work; of_pivots = h.of_pivots }
 
-  refuse_keeps : (a : ℕ) (x : Scratch) → Long k l x → StoppedLong k l (refuse a x)
+  refuse_keeps : (a : Refusal) (x : Scratch) → Long k l x → StoppedLong k l (refuse a x)
   unfolding refuse
   refuse_keeps a x h = halt_keeps _ x h
 
@@ -56,7 +55,7 @@ module _ (k l : ℕ) where
   choose_keeps true q r h g = h
   choose_keeps false q r h g = g
 
-  provided_keeps : (b : Bool) (a : ℕ) (x : Scratch) (r : Stopped) → Long k l x → StoppedLong k l r → StoppedLong k l (provided b a x r)
+  provided_keeps : (b : Bool) (a : Refusal) (x : Scratch) (r : Stopped) → Long k l x → StoppedLong k l r → StoppedLong k l (provided b a x r)
   unfolding provided
   provided_keeps b a x r h g = choose_keeps b r _ g (refuse_keeps a x h)
 
@@ -114,11 +113,10 @@ module _ (k l : ℕ) where
     unfolding combine
     combine_keeps x h = partial_done_keeps _ (work_keeps _ (length_partial n _ _ _) x h)
 
-    ask_first_probe_keeps : (p : Probes) (x : Scratch) → Long k l x → StoppedLong k l (ask_first_probe g p x)
+    ask_first_probe_keeps : (p : Result (Float × Option Float) Refusal) (x : Scratch) → Long k l x → StoppedLong k l (ask_first_probe g p x)
     unfolding ask_first_probe
-    ask_first_probe_keeps (Refused a) x h = refuse_keeps a x h
-    ask_first_probe_keeps (One first) x h = ask_rhs_keeps _ _ _ (marks_keep _ x h)
-    ask_first_probe_keeps (Two first second) x h = ask_rhs_keeps _ _ _ (marks_keep _ x h)
+    ask_first_probe_keeps (Ok (first, second)) x h = ask_rhs_keeps _ _ _ (marks_keep _ x h)
+    ask_first_probe_keeps (Err a) x h = refuse_keeps a x h
 
     ask_partial_keeps : (x : Scratch) → Long k l x → StoppedLong k l (ask_partial g x)
     unfolding ask_partial

@@ -2,5 +2,4 @@
 pub mod Lengths
 pub mod Requests
 pub mod Links
-pub mod Settings
-pub mod Moves
+mod Factors

@@ -7,13 +7,11 @@ use mathlib.Core.List.{List}
 use lib.Dec.{eqb}
 use lib.Ieee.{Float}
 use borrow.Author.Tests.{eqb-false}
-use Rattle.time_difference.specs.declared.Probes.{Probes}
-use Rattle.time_difference.specs.declared.Probes.TheVariants.{One, Two, Refused}
+use Rattle.std.specs.Prelude.{Option, Result, Ok, Err}
+use Rattle.stepping.specs.declared.Refusal.{Refusal}
 use Rattle.attempts.specs.declared.Ask.{Ask}
 use Rattle.attempts.specs.declared.Ask.TheVariants.{Derivative, Jacobian, TimePartial, FirstProbe, SecondProbe, Column, Stage}
-use Rattle.attempts.specs.declared.Ending.{Ending}
-use Rattle.attempts.specs.declared.Ending.TheVariants.{Asks, Ends, Shows}
-use Rattle.attempts.specs.Attempt.{Given, Scratch, Stopped, halt, refuse, ask, ask_rhs, choose, provided, show, finish, ask_stage, open_stage, next_stage, solve_stage, first_stage, factor, partial_done, combine, ask_first_probe, ask_partial, jacobian_done, open_column, next_column, ask_jacobian, differentiate, evaluate, start, resume}
+use Rattle.attempts.specs.Attempt.{Ending, Asks, Ends, Shows, Given, Scratch, Stopped, halt, refuse, ask, ask_rhs, choose, provided, show, finish, ask_stage, open_stage, next_stage, solve_stage, first_stage, factor, partial_done, combine, ask_first_probe, ask_partial, jacobian_done, open_column, next_column, ask_jacobian, differentiate, evaluate, start, resume}
 
 -- a column below n, a stage below s
 abbrev pub AskInRange : ℕ → ℕ → Ask → Type 0
@@ -50,7 +48,7 @@ module _ (g : Given) where
   unfolding halt
   halt_fits e x h = record { ending = h }
 
-  refuse_fits : (k : ℕ) (x : Scratch) → Fits (refuse k x)
+  refuse_fits : (k : Refusal) (x : Scratch) → Fits (refuse k x)
   unfolding refuse
   refuse_fits k x = halt_fits (Ends k) x tt
 
@@ -67,7 +65,7 @@ module _ (g : Given) where
   choose_fits true q r h l = h refl
   choose_fits false q r h l = l refl
 
-  provided_fits : (b : Bool) (k : ℕ) (x : Scratch) (r : Stopped) → Fits r → Fits (provided b k x r)
+  provided_fits : (b : Bool) (k : Refusal) (x : Scratch) (r : Stopped) → Fits r → Fits (provided b k x r)
   unfolding provided
   provided_fits b k x r h = choose_fits b r _ (λ _. h) (λ _. refuse_fits k x)
 
@@ -112,11 +110,10 @@ module _ (g : Given) where
     unfolding combine
     combine_fits x = partial_done_fits _
 
-    ask_first_probe_fits : (p : Probes) (x : Scratch) → Fits (ask_first_probe g p x)
+    ask_first_probe_fits : (p : Result (Float × Option Float) Refusal) (x : Scratch) → Fits (ask_first_probe g p x)
     unfolding ask_first_probe
-    ask_first_probe_fits (Refused k) x = refuse_fits k x
-    ask_first_probe_fits (One first) x = ask_rhs_fits FirstProbe _ _ tt
-    ask_first_probe_fits (Two first second) x = ask_rhs_fits FirstProbe _ _ tt
+    ask_first_probe_fits (Ok (first, second)) x = ask_rhs_fits FirstProbe _ _ tt
+    ask_first_probe_fits (Err k) x = refuse_fits k x
 
     ask_partial_fits : (x : Scratch) → Fits (ask_partial g x)
     unfolding ask_partial

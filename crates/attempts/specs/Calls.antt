@@ -1,31 +1,30 @@
--- What the code of an open attempt needs of its callers, what it hands back, and what it says of the memory that it is not lent. Definitions only.
-use Rattle.std.specs.Prelude.{ℕ, ◌≤◌, ◌<◌, ◌≡◌, Bool, false, ◌||◌, List, [], get_or, Float}
-use Rattle.time_difference.specs.Policy.{default_policy}
-use Rattle.stages.specs.Layout.{Room}
+-- What the code of an open attempt needs of its callers, and what it hands back. Definitions only.
+use Rattle.std.specs.Prelude.{ℕ, ◌≤◌, ◌<◌, ◌≡◌, false, ◌||◌, List, [], get_or, length, Option, None, Some, Result, Ok, Err}
+use Rattle.stepping.specs.declared.Refusal.{Refusal}
+use Rattle.tableau.specs.File.{tableau_of}
+use Rattle.stages.specs.declared.work.Work.{Work}
+use Rattle.stages.specs.Lent.{Same}
 use Rattle.attempts.specs.declared.Setting.{Setting}
 use Rattle.attempts.specs.declared.Memo.{Memo}
-use Rattle.attempts.specs.declared.Counted.{Counted}
-use Rattle.attempts.specs.declared.Marks.{Marks}
 use Rattle.attempts.specs.declared.Ask.{Ask}
 use Rattle.attempts.specs.declared.Ask.TheVariants.{Derivative, Jacobian, TimePartial, FirstProbe, SecondProbe, Column, Stage}
-use Rattle.attempts.specs.declared.Stop.{Stop}
-use Rattle.attempts.specs.declared.Ending.TheVariants as ending
-use Rattle.attempts.specs.declared.StageOutcome.{StageOutcome}
-use Rattle.attempts.specs.declared.StageOutcome.TheVariants.{Asks, Ends, Shows}
 use Rattle.attempts.specs.declared.Halt.{Halt}
 use Rattle.attempts.specs.declared.Halt.TheVariants as halts
 use Rattle.attempts.specs.declared.Moved.{Moved}
-use Rattle.attempts.specs.Marks.{with_caches, with_error_shown, with_probes, noting}
-use Rattle.attempts.specs.Attempt.{Scratch, Stopped, scratch, stopped, on_marks, halt, refuse, ask, ask_rhs, wanted}
+use Rattle.attempts.specs.declared.Given as code
+use Rattle.attempts.specs.Marks.{Counted, Marks, with_caches, with_error_shown, with_probes, counting_solve, noting, counting}
+use Rattle.attempts.specs.Attempt.{Ending, Asks, Shows, Stop, Given, given, Scratch, Stopped, scratch, on_marks, halt, refuse, ask, ask_rhs, wanted}
 
--- n components and s stages, with the lengths of the state and of the work
-pub record Fit (n s state work : ℕ) : Type 0 where
-  pub room : Room n s work
-  pub some : 1 ≤ s
-  pub components : state ≡ n
+-- what the code is given: some stage, and a state of n components
+pub record Fits (g : code.Given) : Type 0 where
+  pub some : 1 ≤ g.setting.s
+  pub state : length g.state.now ≡ g.setting.n
 
-abbrev pub Sizes : Setting → ℕ → ℕ → Type 0
-Sizes g state work = Fit g.n g.s state work
+-- the same, with the work of its sizes
+pub record Sizes (g : code.Given) (w : Work) : Type 0 where
+  pub components : w.layout.n ≡ g.setting.n
+  pub stages : w.layout.s ≡ g.setting.s
+  pub fits : Fits g
 
 -- a request that is answered by so many values: its column or stage is one, and each pivot is a row where a stage is to be solved
 pub record Answers (g : Setting) (pivots : List ℕ) (ask : Ask) (count : ℕ) : Type 0 where
@@ -34,32 +33,29 @@ pub record Answers (g : Setting) (pivots : List ℕ) (ask : Ask) (count : ℕ) :
   pub within : (i : ℕ) → ask ≡ Stage i → (k : ℕ) → k < g.n → get_or pivots k 0 < g.n
   pub values : count ≡ wanted g.n ask
 
--- ---- the calls that do the arithmetic hand back what they move and how they halt; those of the stages take sizes, time and step
+-- ---- what is handed over
 
--- a setting with these: the stages read nothing else of it
-abbrev pub setting_at : ℕ → ℕ → Float → Float → Setting
-setting_at n s time step =
-    record {
-      n = n;
-      s = s;
-      policy = default_policy;
-      time = time;
-      step = step;
-      host_jacobian = false;
-      host_time_partial = false;
-    }
+-- what the code is given, with the tableau that its file holds
+abbrev pub given_by : code.Given → Given
+given_by g = given g.setting (tableau_of g.file.now) g.state.now
+
+-- a memo with what the call has counted so far
+abbrev pub marked : Memo → Counted → Marks
+marked memo c = record { memo = memo; counted = c }
+
+-- ---- what is handed back: what an open attempt moves, and how it halts
 
 -- what is noted and counted where it halts
-unfoldable pub halt_stop : Halt → Scratch → Stopped
-halt_stop (halts.Derivative time) x = ask_rhs Derivative time x
-halt_stop (halts.Jacobian time) x = ask Jacobian time x
-halt_stop (halts.TimePartial time) x = ask TimePartial time x
-halt_stop (halts.FirstProbe two first second) x = ask_rhs FirstProbe first (on_marks (noting (with_probes two first second)) x)
-halt_stop (halts.SecondProbe time) x = ask_rhs SecondProbe time x
-halt_stop (halts.Column k time) x = ask_rhs (Column k) time x
-halt_stop (halts.Stage i time) x = ask_rhs (Stage i) time x
-halt_stop (halts.Ends k) x = refuse k x
-halt_stop (halts.Shows error) x = halt ending.Shows (on_marks (noting (with_error_shown error)) x)
+unfoldable pub halt_stop : Result Halt Refusal → Scratch → Stopped
+halt_stop (Ok (halts.Derivative time)) x = ask_rhs Derivative time x
+halt_stop (Ok (halts.Jacobian time)) x = ask Jacobian time x
+halt_stop (Ok (halts.TimePartial time)) x = ask TimePartial time x
+halt_stop (Ok (halts.FirstProbe first second)) x = ask_rhs FirstProbe first (on_marks (noting (with_probes first second)) x)
+halt_stop (Ok (halts.SecondProbe time)) x = ask_rhs SecondProbe time x
+halt_stop (Ok (halts.Column k time)) x = ask_rhs (Column k) time x
+halt_stop (Ok (halts.Stage i time)) x = ask_rhs (Stage i) time x
+halt_stop (Ok (halts.Shows error)) x = halt Shows (on_marks (noting (with_error_shown error)) x)
+halt_stop (Err refusal) x = refuse refusal x
 
 -- the caches that now hold, and what was counted
 unfoldable pub moved_marks : Moved → Marks → Marks
@@ -68,11 +64,7 @@ moved_marks r m =
     record {
       memo = with_caches (r.derivative || m.memo.derivative_valid) (r.differentiation || m.memo.differentiation_valid) m.memo;
       counted =
-          record {
-            attempts = c.attempts;
-            rhs_evaluations = c.rhs_evaluations;
-            accepted_steps = c.accepted_steps;
-            rejected_steps = c.rejected_steps;
+          record c {
             jacobian_evaluations = r.jacobian || c.jacobian_evaluations;
             factorizations = r.factorization || c.factorizations;
             linear_solves = r.solve || c.linear_solves;
@@ -87,31 +79,39 @@ moved_stop r x = halt_stop r.halt (on_marks (moved_marks r) x)
 unfoldable pub stop_by : Moved → Marks → Stop
 stop_by r m = (moved_stop r (scratch m [] [])).stop
 
--- what the matrix and the stages move: no cache, and no Jacobian
-unfoldable pub moved_by : Bool → Bool → Halt → Moved
-moved_by factorization solve h =
+-- no cache, and nothing counted
+abbrev pub nothing : Result Halt Refusal → Moved
+nothing h =
     record {
       derivative = false;
       differentiation = false;
       jacobian = false;
-      factorization = factorization;
-      solve = solve;
+      factorization = false;
+      solve = false;
       halt = h;
     }
 
--- the stages' outcome as a halt, and what is noted and counted there
-unfoldable pub stage_halt : StageOutcome → Halt
-stage_halt (Asks i time) = halts.Stage i time
-stage_halt (Ends k) = halts.Ends k
-stage_halt (Shows error) = halts.Shows error
+-- how it stops where this is asked, if anything is
+abbrev pub ending_of : Option Ask → Ending
+ending_of None = Shows
+ending_of (Some a) = Asks a
 
-abbrev pub stage_stop : StageOutcome → Scratch → Stopped
-stage_stop r x = halt_stop (stage_halt r) x
+-- how it halts by f, and that the same work is lent as before
+pub record Halts (r : Result Halt Refusal) (old new : Work) (f : Scratch → Stopped) : Type 0 where
+  pub stops : (m : Marks) (p : List ℕ) → halt_stop r (scratch m new.cells.now p) ≡ f (scratch m old.cells.now p)
+  pub same : Same old new
 
--- a memo with what the call has counted so far
-abbrev pub marked : Memo → Counted → Marks
-marked memo c = record { memo = memo; counted = c }
+-- the same, where a solve is still to be counted
+pub record Solves (r : Result Halt Refusal) (old new : Work) (p : List ℕ) (f : Scratch → Stopped) : Type 0 where
+  pub stops : (m : Marks) → halt_stop r (on_marks (counting counting_solve) (scratch m new.cells.now p)) ≡ f (scratch m old.cells.now p)
+  pub same : Same old new
 
--- r is how f stops with these marks, whatever the memory, which it leaves
-abbrev pub Stops : Stop → Marks → (Scratch → Stopped) → Type 0
-Stops r m f = (w : List Float) (p : List ℕ) → stopped r w p ≡ f (scratch m w p)
+-- what it moves and how it halts by f, whatever the marks
+pub record Moves (r : Moved) (old new : Work) (pivots pivots' : List ℕ) (f : Scratch → Stopped) : Type 0 where
+  pub stops : (m : Marks) → moved_stop r (scratch m new.cells.now pivots') ≡ f (scratch m old.cells.now pivots)
+  pub same : Same old new
+
+-- the same, where the memo is this one
+pub record MovesFrom (memo : Memo) (r : Moved) (old new : Work) (pivots pivots' : List ℕ) (f : Scratch → Stopped) : Type 0 where
+  pub stops : (c : Counted) → moved_stop r (scratch (marked memo c) new.cells.now pivots') ≡ f (scratch (marked memo c) old.cells.now pivots)
+  pub same : Same old new

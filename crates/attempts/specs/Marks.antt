@@ -1,32 +1,26 @@
 -- What an open attempt notes: in the record's memo, and what is to be counted. Definitions only.
-use Rattle.std.specs.Prelude.{◌≡◌, Bool, true, false, Float}
+use Rattle.std.specs.Prelude.{Bool, true, false, cond, Float, Option, None, Some}
 use Rattle.float.specs.Operators.{𝟎}
 use Rattle.attempts.specs.declared.Memo.{Memo}
-use Rattle.attempts.specs.declared.Counted.{Counted}
-use Rattle.attempts.specs.declared.Marks.{Marks}
 
 -- ---- the memo
 
-abbrev memo : Bool → Bool → Bool → Bool → Float → Float → Float → Memo
-memo derivative differentiation error two first second request =
-    record {
-      derivative_valid = derivative;
-      differentiation_valid = differentiation;
-      error_shown = error;
-      two_probes = two;
-      first_probe = first;
-      second_probe = second;
-      request_time = request;
-    }
-
 -- what a making sets
 abbrev pub blank : Memo
-blank = memo false false false false 𝟎 𝟎 𝟎
+blank =
+    record {
+      derivative_valid = false;
+      differentiation_valid = false;
+      error_shown = false;
+      two_probes = false;
+      first_probe = 𝟎;
+      second_probe = 𝟎;
+      request_time = 𝟎;
+    }
 
 -- the caches hold, or do not
 unfoldable pub with_caches : Bool → Bool → Memo → Memo
-with_caches derivative differentiation m =
-    memo derivative differentiation m.error_shown m.two_probes m.first_probe m.second_probe m.request_time
+with_caches derivative differentiation m = record m { derivative_valid = derivative; differentiation_valid = differentiation }
 
 -- the derivative at the accepted state is there
 unfoldable pub with_derivative : Memo → Memo
@@ -39,67 +33,74 @@ unfolding with_caches
 with_differentiation m = with_caches m.derivative_valid true m
 
 unfoldable pub with_error_shown : Bool → Memo → Memo
-with_error_shown shown m =
-    memo m.derivative_valid m.differentiation_valid shown m.two_probes m.first_probe m.second_probe m.request_time
+with_error_shown shown m = record m { error_shown = shown }
 
-unfoldable pub with_probes : Bool → Float → Float → Memo → Memo
-with_probes two first second m =
-    memo m.derivative_valid m.differentiation_valid m.error_shown two first second m.request_time
+-- the times of the probes; where there is one, 0 stands for the second
+unfoldable pub with_probes : Float → Option Float → Memo → Memo
+with_probes first None m = record m { two_probes = false; first_probe = first; second_probe = 𝟎 }
+with_probes first (Some second) m = record m { two_probes = true; first_probe = first; second_probe = second }
+
+-- the time of the second probe, where there are two
+unfoldable pub second_probe : Memo → Option Float
+second_probe m = cond m.two_probes (Some m.second_probe) None
 
 unfoldable pub with_request_time : Float → Memo → Memo
-with_request_time time m =
-    memo m.derivative_valid m.differentiation_valid m.error_shown m.two_probes m.first_probe m.second_probe time
+with_request_time time m = record m { request_time = time }
 
 -- ---- what is counted
 
-abbrev counted : Bool → Bool → Bool → Bool → Bool → Bool → Bool → Counted
-counted attempt rhs accepted rejected jacobian factorization solve =
-    record {
-      attempts = attempt;
-      rhs_evaluations = rhs;
-      accepted_steps = accepted;
-      rejected_steps = rejected;
-      jacobian_evaluations = jacobian;
-      factorizations = factorization;
-      linear_solves = solve;
-    }
+-- what a call counts, each at most once
+pub record Counted : Type 0 where
+  pub attempts : Bool
+  pub rhs_evaluations : Bool
+  pub accepted_steps : Bool
+  pub rejected_steps : Bool
+  pub jacobian_evaluations : Bool
+  pub factorizations : Bool
+  pub linear_solves : Bool
 
 abbrev pub nothing_counted : Counted
-nothing_counted = counted false false false false false false false
+nothing_counted =
+    record {
+      attempts = false;
+      rhs_evaluations = false;
+      accepted_steps = false;
+      rejected_steps = false;
+      jacobian_evaluations = false;
+      factorizations = false;
+      linear_solves = false;
+    }
 
 abbrev pub one_attempt : Counted
-one_attempt = counted true false false false false false false
+one_attempt = record nothing_counted { attempts = true }
 
 abbrev pub one_accepted : Counted
-one_accepted = counted false false true false false false false
+one_accepted = record nothing_counted { accepted_steps = true }
 
 abbrev pub one_rejected : Counted
-one_rejected = counted false false false true false false false
-
--- no step is counted, accepted or rejected
-abbrev pub NoStep : Counted → Type 0
-NoStep c = (c.accepted_steps ≡ false) × (c.rejected_steps ≡ false)
+one_rejected = record nothing_counted { rejected_steps = true }
 
 unfoldable pub counting_rhs : Counted → Counted
-counting_rhs c =
-    counted c.attempts true c.accepted_steps c.rejected_steps c.jacobian_evaluations c.factorizations c.linear_solves
+counting_rhs c = record c { rhs_evaluations = true }
 
 unfoldable pub counting_jacobian : Counted → Counted
-counting_jacobian c =
-    counted c.attempts c.rhs_evaluations c.accepted_steps c.rejected_steps true c.factorizations c.linear_solves
+counting_jacobian c = record c { jacobian_evaluations = true }
 
 unfoldable pub counting_factorization : Counted → Counted
-counting_factorization c =
-    counted c.attempts c.rhs_evaluations c.accepted_steps c.rejected_steps c.jacobian_evaluations true c.linear_solves
+counting_factorization c = record c { factorizations = true }
 
 unfoldable pub counting_solve : Counted → Counted
-counting_solve c =
-    counted c.attempts c.rhs_evaluations c.accepted_steps c.rejected_steps c.jacobian_evaluations c.factorizations true
+counting_solve c = record c { linear_solves = true }
 
 -- ---- both
 
+-- what is noted, and what is counted so far
+pub record Marks : Type 0 where
+  pub memo : Memo
+  pub counted : Counted
+
 unfoldable pub noting : (Memo → Memo) → Marks → Marks
-noting f m = record { memo = f m.memo; counted = m.counted }
+noting f m = record m { memo = f m.memo }
 
 unfoldable pub counting : (Counted → Counted) → Marks → Marks
-counting f m = record { memo = m.memo; counted = f m.counted }
+counting f m = record m { counted = f m.counted }

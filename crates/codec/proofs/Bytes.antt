@@ -1,39 +1,51 @@
--- Four and eight bytes as the code puts them together, and what the upper four tell of a double. Assumes nothing.
-use Prim.Native.Nat.{ℕ, suc, ◌+◌, ◌*◌, ◌/◌, ◌%◌, ◌<◌}
+-- Numbers of four and eight bytes as std reads them. Assumes nothing.
+use Prim.Native.Nat.{ℕ, suc, ◌+◌, ◌/◌, ◌<◌}
 use native.Mathlib.Omega.{arith}
-use mathlib.Core.Path.{◌≡◌, sym, subst, ◌∙◌}
-use mathlib.Core.Bool.{Bool, not}
+use mathlib.Core.Path.{◌≡◌, ap, ◌∙◌}
 use mathlib.Core.List.{List}
-use lib.Dec.{T}
-use lib.ListN.{get_or}
-use lib.Ieee.{binary64, of_bits, nan_bits}
-use lib.Ieee.Bits.{nan_bits_is}
-use borrow.Author.Tests.{lt-ltb}
-use Rattle.float.proofs.Laws.{finite_not_nan}
-use Rattle.float.proofs.Patterns.{finite_bits}
+use lib.ListN.{get_or, take, drop}
+use Rattle.std.specs.Int.{w32, w64, from_le_bytes}
+use Rattle.vector.proofs.Parts.{part_at}
 use Rattle.codec.specs.Little.{little}
 
-module _ (s : List ℕ) (at : ℕ) where
-  pub four : {a b c d : ℕ} → a ≡ get_or s at 0 → b ≡ get_or s (at + 1) 0 → c ≡ get_or s (at + 2) 0 → d ≡ get_or s (at + 3) 0 → a + 256 * (b + 256 * (c + 256 * d)) ≡ little 4 s at
-  unfolding little
-  four p q r t =
-      let f : at + 1 ≡ suc at = omega arith in
-      let g : at + 2 ≡ suc (suc at) = omega arith in
-      let h : at + 3 ≡ suc (suc (suc at)) = omega arith in
-      rw (p, q, r, t, f, g, h) (omega arith)
+-- byte i of the k bytes from `at` on, which is byte j of all
+byte : (s : List ℕ) (at k i j : ℕ) → i < k → at + i ≡ j → get_or (take k (drop at s)) i 0 ≡ get_or s j 0
+byte s at k i j h e = part_at 0 at k s i h ∙ ap (λ (n : ℕ). get_or s n 0) e
 
-  pub eight : {lo hi : ℕ} → lo ≡ little 4 s at → hi ≡ little 4 s (at + 4) → lo + 0x1_0000_0000 * hi ≡ little 8 s at
-  unfolding little
-  eight p q =
-      let e : at + 4 ≡ suc (suc (suc (suc at))) = omega arith in
-      rw (p, q, e) (omega arith)
+pub four : (s : List ℕ) (at : ℕ) → from_le_bytes w32 (take 4 (drop at s)) ≡ little 4 s at
+unfolding little
+four s at =
+    omega (
+      arith,
+      byte s at 4 0 at (omega arith) (omega arith),
+      byte s at 4 1 (suc at) (omega arith) (omega arith),
+      byte s at 4 2 (suc (suc at)) (omega arith) (omega arith),
+      byte s at 4 3 (suc (suc (suc at))) (omega arith) (omega arith),
+    )
 
--- a number of 32 bits is lost in the quotient
-pub upper_half : {lo hi h : ℕ} → lo < 0x1_0000_0000 → hi ≡ h → (lo + 0x1_0000_0000 * hi) / 0x1_0000_0000 ≡ h
-upper_half l q = omega arith
+pub eight : (s : List ℕ) (at : ℕ) → from_le_bytes w64 (take 8 (drop at s)) ≡ little 8 s at
+unfolding little
+eight s at =
+    let a = suc (suc (suc (suc at))) in
+    omega (
+      arith,
+      byte s at 8 0 at (omega arith) (omega arith),
+      byte s at 8 1 (suc at) (omega arith) (omega arith),
+      byte s at 8 2 (suc (suc at)) (omega arith) (omega arith),
+      byte s at 8 3 (suc (suc (suc at))) (omega arith) (omega arith),
+      byte s at 8 4 a (omega arith) (omega arith),
+      byte s at 8 5 (suc a) (omega arith) (omega arith),
+      byte s at 8 6 (suc (suc a)) (omega arith) (omega arith),
+      byte s at 8 7 (suc (suc (suc a))) (omega arith) (omega arith),
+    )
 
--- the exponent in the upper half is not all ones: a finite double, and no NaN
-pub upper_finite : (b : ℕ) {h u : ℕ} → b / 0x1_0000_0000 ≡ h → u ≡ h → u % 0x8000_0000 < 0x7ff0_0000 → T (not (nan_bits binary64 b))
-upper_finite b e f k =
-    let l : b % 0x8000_0000_0000_0000 < 0x7ff0_0000_0000_0000 = omega arith in
-    subst (λ (t : Bool). T (not t)) (sym (nan_bits_is binary64 b)) (finite_not_nan (of_bits binary64 b) (finite_bits b ∙ lt-ltb (b % 0x8000_0000_0000_0000) 0x7ff0_0000_0000_0000 l))
+-- the upper four of eight bytes
+pub upper_half : (s : List ℕ) (at : ℕ) → ((i : ℕ) → get_or s i 0 < 256) → little 8 s at / 0x1_0000_0000 ≡ little 4 s (at + 4)
+unfolding little
+upper_half s at B =
+    let e : at + 4 ≡ suc (suc (suc (suc at))) = omega arith in
+    let a = B at in
+    let b = B (suc at) in
+    let c = B (suc (suc at)) in
+    let d = B (suc (suc (suc at))) in
+    rw e (omega arith)

@@ -1,69 +1,40 @@
--- Four and eight bytes as the code stores them, and one more turn of a loop that stores numbers. Assumes nothing.
-use Prim.Native.Nat.{ℕ, suc, ◌+◌, ◌*◌, ◌/◌, ◌%◌, ◌<◌}
+-- Numbers of four and eight bytes as std stores them. Assumes nothing.
+use Prim.Native.Nat.{ℕ, ◌+◌, ◌/◌, ◌≤◌}
 use native.Mathlib.Omega.{arith}
-use native.Mathlib.Numerals.{add-one}
-use mathlib.Core.Path.{◌≡◌, ap, ◌∙◌}
-use mathlib.Core.List.{List, ◌++◌}
-use lib.ListN.{length, set, take, get_or}
-use lib.Seq.{sets, take-suc, length-take-le}
-use Rattle.codec.specs.Little.{bytes_of, bytes_of_all}
-use Rattle.vector.proofs.Stores.{sets_more}
-use Rattle.codec.proofs.Inverse.{bytes_of_all_append, bytes_of_all_one, length-bytes_of, length-bytes_of_all}
+use mathlib.Core.Path.{◌≡◌, refl, sym, ap, ◌∙◌}
+use mathlib.Core.List.{List, ◌++◌, append_assoc}
+use lib.ListN.{length, take, drop}
+use lib.Seq.{sets, drop-drop}
+use borrow.Rule.Slice.PartMut.{put_mid}
+use Rattle.std.proofs.Math.Seq.{sets-eq}
+use Rattle.std.specs.Int.{w32, w64, to_le_bytes}
+use Rattle.codec.specs.Little.{bytes_of}
 
-pub four_sets : (l : List ℕ) (at x : ℕ) {a b c d : ℕ} → a ≡ x % 256 → b ≡ x / 256 % 256 → c ≡ x / 256 / 256 % 256 → d ≡ x / 256 / 256 / 256 % 256
-    → set (set (set (set l at a) (at + 1) b) (at + 2) c) (at + 3) d ≡ sets l at (bytes_of 4 x)
+-- a part that came back is a run of stores
+mid_sets : (l v : List ℕ) (at k : ℕ) → at + k ≤ length l → length v ≡ k → put_mid at k l v ≡ sets l at v
+mid_sets l v at k h e =
+    ap (λ (r : List ℕ). take at l ++ (v ++ r)) (drop-drop k at l ∙ ap (λ (n : ℕ). drop (at + n) l) (sym e)) ∙ sym (append_assoc (take at l) v (drop (at + length v) l)) ∙ sym (sets-eq v l at (omega arith))
+
+bytes_four : (x : ℕ) → to_le_bytes w32 x ≡ bytes_of 4 x
 unfolding bytes_of
-four_sets l at x p q r s =
-    let f : at + 1 ≡ suc at = omega arith in
-    let g : at + 2 ≡ suc (suc at) = omega arith in
-    let h : at + 3 ≡ suc (suc (suc at)) = omega arith in
-    rw (p, q, r, s, f, g, h)
+bytes_four x =
+    let b : x / 65536 ≡ x / 256 / 256 = omega arith in
+    let c : x / 16777216 ≡ x / 256 / 256 / 256 = omega arith in
+    rw (b, c)
 
--- the lower four bytes
-shift : (a b c k : ℕ) → a ≡ 256 * (k * c) + b → a / 256 ≡ k * c + b / 256
-shift a b c k e = let z = k * c in omega arith
-
-lower_four : (x : ℕ) → bytes_of 4 (x % 0x1_0000_0000) ≡ bytes_of 4 x
+bytes_eight : (x : ℕ) → to_le_bytes w64 x ≡ bytes_of 8 x
 unfolding bytes_of
-lower_four x =
-    let u = x % 0x1_0000_0000 in
-    let q = x / 0x1_0000_0000 in
-    let x0 : x ≡ 256 * (16777216 * q) + u = omega arith in
-    let x1 : x / 256 ≡ 16777216 * q + u / 256 = shift x u q 16777216 x0 in
-    let x2 : x / 256 / 256 ≡ 65536 * q + u / 256 / 256 = shift (x / 256) (u / 256) q 65536 (omega arith) in
-    let x3 : x / 256 / 256 / 256 ≡ 256 * q + u / 256 / 256 / 256 = shift (x / 256 / 256) (u / 256 / 256) q 256 (omega arith) in
-    let a = tail u x (16777216 * q) x0 in
-    let b = tail (u / 256) (x / 256) (65536 * q) (omega arith) in
-    let c = tail (u / 256 / 256) (x / 256 / 256) (256 * q) (omega arith) in
-    let d = tail (u / 256 / 256 / 256) (x / 256 / 256 / 256) q x3 in
-    cc (a, b, c, d)
-  where
-    tail : (u x q : ℕ) → x ≡ 256 * q + u → u % 256 ≡ x % 256
-    tail u x q e = omega arith
+bytes_eight x =
+    let b : x / 65536 ≡ x / 256 / 256 = omega arith in
+    let c : x / 16777216 ≡ x / 256 / 256 / 256 = omega arith in
+    let d : x / 4294967296 ≡ x / 256 / 256 / 256 / 256 = omega arith in
+    let e : x / 1099511627776 ≡ x / 256 / 256 / 256 / 256 / 256 = omega arith in
+    let f : x / 281474976710656 ≡ x / 256 / 256 / 256 / 256 / 256 / 256 = omega arith in
+    let g : x / 72057594037927936 ≡ x / 256 / 256 / 256 / 256 / 256 / 256 / 256 = omega arith in
+    rw (b, c, d, e, f, g)
 
-joined : (x : ℕ) → bytes_of 4 x ++ bytes_of 4 (x / 0x1_0000_0000) ≡ bytes_of 8 x
-unfolding bytes_of
-joined x = let e : x / 0x1_0000_0000 ≡ x / 256 / 256 / 256 / 256 = omega arith in rw e
+pub four_stored : (l : List ℕ) (at x : ℕ) → at + 4 ≤ length l → put_mid at 4 l (to_le_bytes w32 x) ≡ sets l at (bytes_of 4 x)
+four_stored l at x h = mid_sets l (to_le_bytes w32 x) at 4 h refl ∙ ap (sets l at) (bytes_four x)
 
--- the eight bytes are those of the lower half, then those of the upper
-halves : (x : ℕ) → bytes_of 4 (x % 0x1_0000_0000) ++ bytes_of 4 (x / 0x1_0000_0000 % 0x1_0000_0000) ≡ bytes_of 8 x
-halves x = rw (lower_four x, lower_four (x / 0x1_0000_0000)) (joined x)
-
-pub eight_sets : (l : List ℕ) (at x : ℕ) {m n : List ℕ} {lo hi : ℕ} → m ≡ sets l at (bytes_of 4 lo) → n ≡ sets m (at + 4) (bytes_of 4 hi) → lo ≡ x % 0x1_0000_0000 → hi ≡ x / 0x1_0000_0000 % 0x1_0000_0000
-    → n ≡ sets l at (bytes_of 8 x)
-eight_sets l at x {m} {n} {lo} {hi} p q r s =
-    let k : length (bytes_of 4 (x % 0x1_0000_0000)) ≡ 4 = length-bytes_of 4 (x % 0x1_0000_0000) in
-    let e : at + 4 ≡ at + length (bytes_of 4 (x % 0x1_0000_0000)) = omega arith in
-    q ∙ rw (p, r, s, e) (sets_more l at (bytes_of 4 (x % 0x1_0000_0000)) (bytes_of 4 (x / 0x1_0000_0000 % 0x1_0000_0000)) ∙ ap (sets l at) (halves x))
-
-all_more : (k : ℕ) (xs : List ℕ) (i : ℕ) → i < length xs → bytes_of_all k (take i xs) ++ bytes_of k (get_or xs i 0) ≡ bytes_of_all k (take (i + 1) xs)
-all_more k xs i h = rw (add-one, take-suc xs i 0, bytes_of_all_append, bytes_of_all_one)
-
--- one more turn of a loop that writes the numbers xs from `at` on
-pub stored_more : (k : ℕ) (l xs : List ℕ) (at i p x : ℕ) {out out' : List ℕ} → i < length xs → p ≡ at + i * k → x ≡ get_or xs i 0
-    → out ≡ sets l at (bytes_of_all k (take i xs)) → out' ≡ sets out p (bytes_of k x) → out' ≡ sets l at (bytes_of_all k (take (i + 1) xs))
-stored_more k l xs at i p x {out} {out'} h e f g q =
-    let b = bytes_of_all k (take i xs) in
-    let n : length b ≡ i * k = length-bytes_of_all k (take i xs) ∙ ap (λ (n : ℕ). n * k) (length-take-le i xs (omega arith)) in
-    let e' : p ≡ at + length b = omega arith in
-    q ∙ rw (g, e', f) (sets_more l at b (bytes_of k (get_or xs i 0)) ∙ ap (sets l at) (all_more k xs i h))
+pub eight_stored : (l : List ℕ) (at x : ℕ) → at + 8 ≤ length l → put_mid at 8 l (to_le_bytes w64 x) ≡ sets l at (bytes_of 8 x)
+eight_stored l at x h = mid_sets l (to_le_bytes w64 x) at 8 h refl ∙ ap (sets l at) (bytes_eight x)

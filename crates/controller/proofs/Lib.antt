@@ -1,3 +1,2 @@
 -- Laws that the functions' proofs cite. `Choice` has the theorems.
-mod Answers
 pub mod Choice

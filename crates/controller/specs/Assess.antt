@@ -1,14 +1,18 @@
 -- Automatic step size control (Hairer, Nørsett and Wanner, Solving Ordinary Differential Equations I, II.4; PI and PID control: Hairer and Wanner II,
 -- IV.2, and Gustafsson): what assess answers for a step h with the error err, and what it makes of the controller. The answer is a pure decision,
 -- refused by the first of five tests that holds; the change of the state stands apart, and only a decision brings it about. Definitions only.
-use Rattle.std.specs.Prelude.{ℕ, Bool, true, false, not, ◌&&◌, cond, List, [], ◌∷◌, eqb, Float}
+use Rattle.std.specs.Prelude.{ℕ, Bool, true, false, not, ◌&&◌, cond, List, [], ◌∷◌, Float}
 use Rattle.std.specs.Float.Ieee.{le, ne}
 use Rattle.std.specs.Float.Ieee.Scale.{finite}
 use Rattle.float.specs.Operators.{𝟎}
 use Rattle.float.specs.Methods.{abs, max_num, min_num}
 use Rattle.float.specs.Counter.{saturating_increment}
 use Rattle.vector.specs.Lists.{el}
-use Rattle.stepping.specs.Refusals.{configuration, minimum_step, Test, ◌when◌, first_of, unless_refused}
+use Rattle.stepping.specs.declared.Refusal.{Refusal}
+use Rattle.stepping.specs.declared.Refusal.TheVariants.{Configuration}
+use Rattle.stepping.specs.declared.Refusal.TheVariants as refusal
+use Rattle.stepping.specs.Refusals.{Test, ◌when◌, first_of, unless_refused}
+use Rattle.stepping.specs.Refusals as refusals
 use Rattle.settings.specs.declared.ControllerConfig.{ControllerConfig}
 use Rattle.settings.specs.declared.ControllerState.{ControllerState}
 use Rattle.settings.specs.Constants.{largest}
@@ -28,7 +32,7 @@ sound k = valid_settings k.config && valid_errors k.state.accepted_errors
 
 -- what every call tests first
 abbrev pub sound_tests : AdaptiveController → List Test
-sound_tests k = (configuration when not (sound k)) ∷ []
+sound_tests k = (Configuration when not (sound k)) ∷ []
 
 -- a finite number other than 0
 unfoldable pub usable : Float → Bool
@@ -48,18 +52,19 @@ stuck h d = not d.accepted && le (abs h) (abs d.next_step)
 
 abbrev pub assess_tests : AdaptiveController → Float → Float → StepDecision → List Test
 assess_tests k h err d =
-    (configuration when not (sound k))
-    ∷ (configuration when not (measured h err))
-    ∷ (minimum_step when exhausted k.config h err)
-    ∷ (configuration when not (usable d.next_step))
-    ∷ (minimum_step when stuck h d)
+    (Configuration when not (sound k))
+    ∷ (Configuration when not (measured h err))
+    ∷ (refusal.MinimumStep when exhausted k.config h err)
+    ∷ (Configuration when not (usable d.next_step))
+    ∷ (refusal.MinimumStep when stuck h d)
     ∷ []
 
 -- ---- the answer
 
 -- 16 carries the error
-unfoldable pub refused : Float → ℕ → Assessment
-refused err n = cond (eqb n minimum_step) (MinimumStep err) (Refused n)
+unfoldable pub refused : Float → Refusal → Assessment
+refused err refusal.MinimumStep = MinimumStep err
+refused err r = Refused r
 
 unfoldable pub assessment : AdaptiveController → Float → Float → Float → Assessment
 assessment k h err product =
@@ -69,8 +74,8 @@ assessment k h err product =
 -- the number of each answer, 0 for a decision
 unfoldable pub number : Assessment → ℕ
 number (Decision d) = 0
-number (Refused n) = n
-number (MinimumStep err) = minimum_step
+number (Refused r) = refusals.number r
+number (MinimumStep err) = refusals.number refusal.MinimumStep
 
 -- ---- the change of the state
 
@@ -107,7 +112,7 @@ controller_of c s = record { config = c; state = s }
 -- a refusal changes nothing
 unfoldable pub after : AdaptiveController → Float → Assessment → AdaptiveController
 after k err (Decision d) = controller_of k.config (advanced k.config k.state err d)
-after k err (Refused n) = k
+after k err (Refused r) = k
 after k err (MinimumStep e) = k
 
 -- ---- the call

@@ -1,1 +1,1 @@
-pub mod Hosting
+mod Hosting

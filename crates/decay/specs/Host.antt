@@ -1,4 +1,4 @@
--- The host of pond (the scope paper, Tried at the edge): y' = -y with Jacobian -1 and time partial 0, and a step of it. Definitions only.
+-- The host of pond: y' = -y with Jacobian -1 and time partial 0, and a step of it. Definitions only.
 use Rattle.std.specs.Prelude.{ℕ, zero, suc, true, List, [], ◌∷◌, Float}
 use Rattle.std.specs.Float.Ieee.{neg}
 use Rattle.float.specs.Operators.{𝟎, 𝟏}

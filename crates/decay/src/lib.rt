@@ -1,8 +1,9 @@
 // The host of pond: y' = -y with Jacobian -1 and time partial 0. It answers what the stepper asks, and
-// steps by 1.
+// steps by 1. state, work and pivots are lent slice by slice: a struct of the three would be made for
+// one call, and what is read and what is written differs from call to call.
 #![tactic(auto)]
 
-ghost use Rattle.std.specs.Prelude.{◌≡◌, [], ◌∷◌};
+ghost use Rattle.std.specs.Prelude.{◌≡◌, ℕ, List, [], ◌∷◌, Float};
 ghost use Rattle.vector.specs.Lists.{el};
 ghost use Rattle.vector.specs.Parts.{part};
 ghost use Rattle.refusals.specs.Answers.{lending};
@@ -13,33 +14,27 @@ ghost use Rattle.decay.specs.Host.{decay, supplied_by, answered_once, answered, 
 
 use readers::{Kind, Told};
 use rosenbrock::{Answer, Outcome, RosenbrockStepper};
+use stepping::Refusal;
 
 // The first component; a NaN where there is none.
 pub fn first(x: &[f64]) -> f64
     ensures { result ≡ el x.now 0 }
 {
-    if x.len() == 0 {
-        return 0.0 / 0.0;
-    }
-    x[0]
+    x.first().copied().unwrap_or(f64::NAN)
 }
 
-// The first component of a part.
-fn first_of(x: &[f64], at: usize, count: usize) -> f64
-    ensures { result ≡ el (part at count x.now) 0 }
+// The components from a place on, as many as are counted and there.
+fn part(x: &[f64], at: usize, count: usize) -> &[f64]
+    ensures { result.now ≡ part at count x.now }
 {
-    if count == 0 {
-        return 0.0 / 0.0;
-    }
-    if at >= x.len() {
-        return 0.0 / 0.0;
-    }
-    x[at]
+    let rest = x.get(at..).unwrap_or(&[]);
+    rest.get(..count).unwrap_or(rest)
 }
 
-// The derivative, the Jacobian or the time partial at y.
-fn evaluated(kind: Kind, time: f64, y: f64) -> f64
-    ensures { (result ∷ []) ≡ answer_to decay (kind_by kind) time (y ∷ []) }
+// The derivative, the Jacobian or the time partial at y, whatever the time.
+#[tactic(auto, unfolding(method::specs::Conversation::answer_to, readers::specs::Telling::kind_by, crate::specs::Host::decay))]
+fn evaluated(kind: Kind, y: f64) -> f64
+    ensures { (time : Float) → (result ∷ []) ≡ answer_to decay (kind_by kind) time (y ∷ []) }
 {
     match kind {
         Kind::Derivative => -y,
@@ -49,26 +44,19 @@ fn evaluated(kind: Kind, time: f64, y: f64) -> f64
 }
 
 // What is supplied to what the reader told; a 0 where nothing is asked.
-fn supplied(told: Told, state: &[f64], work: &[f64], pivots: &[usize]) -> f64
-    ensures { (result ∷ []) ≡ supplied_by (tells told (lending state.now work.now pivots.now)) }
+#[tactic(auto, unfolding(readers::specs::Telling::tells, readers::specs::Telling::reply_of, crate::specs::Host::supplied_by, crate::specs::Host::supplied_to))]
+fn supplied(told: Result<Told, Refusal>, state: &[f64], work: &[f64]) -> f64
+    ensures { (pivots : List ℕ) → (result ∷ []) ≡ supplied_by (tells told (lending state.now work.now pivots)) }
 {
     match told {
-        Told::AskedAtState(kind, time) => {
-            return evaluated(kind, time, first(state));
-        }
-        Told::AskedAtPart(kind, time, at, count) => {
-            return evaluated(kind, time, first_of(work, at, count));
-        }
-        Told::Number(x) => 0.0,
-        Told::State => 0.0,
-        Told::Part(at, count) => 0.0,
-        Told::Absent => 0.0,
-        Told::Statistics(counters) => 0.0,
-        Told::Refused(number) => 0.0,
+        Ok(Told::AskedAtState(kind, _)) => evaluated(kind, first(state)),
+        Ok(Told::AskedAtPart(kind, _, at, count)) => evaluated(kind, first(part(work, at, count))),
+        _ => 0.0,
     }
 }
 
 // Answers what is asked, if something is.
+#[tactic(auto, unfolding(rosenbrock::specs::Outcomes::next_of, rosenbrock::specs::Outcomes::answer_by, crate::specs::Host::answered_once, crate::specs::Host::if_asked))]
 fn answered_once(
     outcome: Outcome,
     file: &[u8],
@@ -79,22 +67,19 @@ fn answered_once(
     ensures { next_of result state.now work.new pivots.new
         ≡ answered_once file.now (next_of outcome state.now work.old pivots.old) }
 {
-    let stepper = outcome.stepper;
-    let answer = outcome.answer;
-    match answer {
-        Answer::Asked => {
-            let told = readers::request(stepper, state, work, pivots);
-            let values = [supplied(told, state, work, pivots)];
-            return stepper.supply(file, &values[..], state, work, pivots);
+    match outcome.answer {
+        Ok(Answer::Asked) => {
+            let told = readers::request(outcome.stepper, state, work, pivots);
+            let values = [supplied(told, state, work)];
+            outcome.stepper.supply(file, &values, state, work, pivots)
         }
-        Answer::Shown => outcome,
-        Answer::Done => outcome,
-        Answer::Refused(number) => outcome,
+        _ => outcome,
     }
 }
 
 // Answers all that is asked in a step: the derivative, the Jacobian, the time partial and at most 8
 // stages.
+#[tactic(auto, using(crate::proofs::Hosting::more), unfolding(crate::specs::Host::answered))]
 fn answered(
     outcome: Outcome,
     file: &[u8],
@@ -106,32 +91,26 @@ fn answered(
         ≡ answered 11 file.now (next_of outcome state.now work.old pivots.old) }
 {
     let mut last = outcome;
-    let mut k: usize = 0;
-    while k < 11 {
+    for _ in 0..11usize {
         last = answered_once(last, file, state, work, pivots);
-        k += 1;
     }
     last
 }
 
 // Accepts what is shown, if something is.
+#[tactic(auto, unfolding(rosenbrock::specs::Outcomes::next_of, rosenbrock::specs::Outcomes::answer_by, crate::specs::Host::decided, crate::specs::Host::if_shown))]
 fn decided(outcome: Outcome, state: &mut [f64], work: &[f64], pivots: &[usize]) -> Outcome
     ensures { next_of result state.new work.now pivots.now
         ≡ decided (next_of outcome state.old work.now pivots.now) }
 {
-    let stepper = outcome.stepper;
-    let answer = outcome.answer;
-    match answer {
-        Answer::Shown => {
-            return stepper.accept(state, work, pivots);
-        }
-        Answer::Asked => outcome,
-        Answer::Done => outcome,
-        Answer::Refused(number) => outcome,
+    match outcome.answer {
+        Ok(Answer::Shown) => outcome.stepper.accept(state, work, pivots),
+        _ => outcome,
     }
 }
 
 // One step by 1: an attempt, what it asks answered, and accept.
+#[tactic(auto, unfolding(crate::specs::Host::one_step))]
 pub fn one_step(
     stepper: RosenbrockStepper,
     file: &[u8],

@@ -3,6 +3,8 @@ use mathlib.Core.Path.{◌≡◌, refl}
 use mathlib.Core.Bool.{false}
 use mathlib.Core.List.{List, [], ◌∷◌}
 use Prim.Native.Nat.{ℕ}
+use Rattle.std.specs.Prelude.{Ok, Err}
+use Rattle.stepping.specs.declared.Refusal.TheVariants.{Dimension, SegmentData}
 use lib.IntN.{pos}
 use lib.ListN.{replicate}
 use lib.Ieee.{Float, fin, lt, le, eq, ne, add, sub, mul, div, of_bits}
@@ -27,20 +29,20 @@ abbrev four : Float
 four = fin false 1 (pos 2)
 
 -- from 2 back to 0, whatever the output held
-pub backward : (x : Float) → interpolate (segment two zero (one ∷ []) (three ∷ []) (two ∷ four ∷ []) 2) one (x ∷ []) ≡ outcome 0 (three ∷ [])
+pub backward : (x : Float) → interpolate (segment two zero (one ∷ []) (three ∷ []) (two ∷ four ∷ []) 2) one (x ∷ []) ≡ outcome (Ok tt) (three ∷ [])
 unfolding interpolate times_fit sizes_fit numbers_fit valid contains theta horner polynomial blend inside component first_of unless_refused table every all_finite lt le eq ne add sub mul div of_bits
 backward x = refl
 
--- 10, and the output is as it was
-pub no_components : (c output : List Float) (order : ℕ) → interpolate (segment zero one [] [] c order) zero output ≡ outcome 10 output
+-- refused, and the output is as it was
+pub no_components : (c output : List Float) (order : ℕ) → interpolate (segment zero one [] [] c order) zero output ≡ outcome (Err SegmentData) output
 unfolding interpolate times_fit sizes_fit numbers_fit valid first_of unless_refused eq ne
 no_components c output order = refl
 
-pub too_many : (c output : List Float) (order : ℕ) → interpolate (segment zero one (replicate 33 one) (replicate 33 one) c order) zero output ≡ outcome 10 output
+pub too_many : (c output : List Float) (order : ℕ) → interpolate (segment zero one (replicate 33 one) (replicate 33 one) c order) zero output ≡ outcome (Err SegmentData) output
 unfolding interpolate times_fit sizes_fit numbers_fit valid first_of unless_refused eq ne
 too_many c output order = refl
 
--- 1 before 11: an output of no places, and a time outside
-pub length_before_time : interpolate (segment zero two (one ∷ []) (three ∷ []) (two ∷ four ∷ []) 2) four [] ≡ outcome 1 []
+-- the length before the time: an output of no places, and a time outside
+pub length_before_time : interpolate (segment zero two (one ∷ []) (three ∷ []) (two ∷ four ∷ []) 2) four [] ≡ outcome (Err Dimension) []
 unfolding interpolate times_fit sizes_fit numbers_fit valid contains first_of unless_refused every all_finite lt le eq ne
 length_before_time = refl

@@ -1,9 +1,11 @@
--- What interpolate refuses, as the scope paper has it, and what it leaves in the output. Definitions only.
-use Rattle.std.specs.Prelude.{ℕ, ◌*◌, Bool, not, ◌&&◌, cond, List, [], ◌∷◌, eqb, leb, length, Float}
+-- What interpolate refuses, and what it leaves in the output. Definitions only.
+use Rattle.std.specs.Prelude.{ℕ, ◌*◌, Bool, not, ◌&&◌, cond, List, [], ◌∷◌, eqb, leb, length, Float, Result, Ok, Err, ⊤}
 use Rattle.std.specs.Float.Ieee.{lt, le, ne}
 use Rattle.std.specs.Float.Ieee.Scale.{finite}
 use Rattle.vector.specs.Lists.{table, all_finite}
-use Rattle.stepping.specs.Refusals.{dimension, segment_data, outside_time_span, Test, ◌when◌, first_of, unless_refused}
+use Rattle.stepping.specs.declared.Refusal.{Refusal}
+use Rattle.stepping.specs.declared.Refusal.TheVariants.{Dimension, SegmentData, OutsideTimeSpan}
+use Rattle.stepping.specs.Refusals.{Test, ◌when◌, first_of, unless_refused}
 use Rattle.dense.specs.Segment.{Segment, size, component}
 
 -- finite and different
@@ -30,21 +32,21 @@ contains start end time = cond (lt start end) (le start time && le time end) (le
 
 -- 1 for an output of another length; 11 for a time outside
 abbrev pub query_tests : Bool → ℕ → ℕ → List Test
-query_tests within m n = (dimension when not (eqb m n)) ∷ (outside_time_span when not within) ∷ []
+query_tests within m n = (Dimension when not (eqb m n)) ∷ (OutsideTimeSpan when not within) ∷ []
 
 -- 10 for what is no segment, then the query's
 abbrev pub tests : Segment → Float → ℕ → List Test
-tests s time m = (segment_data when not (valid s)) ∷ query_tests (contains s.start_time s.end_time time) m (size s)
+tests s time m = (SegmentData when not (valid s)) ∷ query_tests (contains s.start_time s.end_time time) m (size s)
 
--- the number of the refusal, 0 for none, and what the output then holds
+-- whether it is refused, and what the output then holds
 pub record Outcome : Type 0 where
-  pub number : ℕ
+  pub answer : Result ⊤ Refusal
   pub output : List Float
 
-abbrev pub outcome : ℕ → List Float → Outcome
-outcome number output = record { number = number; output = output }
+abbrev pub outcome : Result ⊤ Refusal → List Float → Outcome
+outcome answer output = record { answer = answer; output = output }
 
 -- where it is refused the output is as it was
 unfoldable pub interpolate : Segment → Float → List Float → Outcome
 interpolate s time output =
-    unless_refused (λ number. outcome number output) (first_of (tests s time (length output))) (outcome 0 (table (component s time) (size s)))
+    unless_refused (λ refusal. outcome (Err refusal) output) (first_of (tests s time (length output))) (outcome (Ok tt) (table (component s time) (size s)))

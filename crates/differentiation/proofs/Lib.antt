@@ -1,3 +1,4 @@
 -- Laws that dependents may cite.
 pub mod Lengths
 pub mod Writes
+pub mod Loops

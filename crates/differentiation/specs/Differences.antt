@@ -1,4 +1,4 @@
--- The Jacobian by forward differences (the scope paper, Probed Jacobian), in IEEE 754 binary64: component k of the state rises by the square root of
+-- The Jacobian by forward differences, in IEEE 754 binary64: component k of the state rises by the square root of
 -- 2 ^ -52 times its magnitude, or times 1 where that is larger, and column k is the difference of the derivatives over the rise that rounding left.
 -- Definitions only.
 use Rattle.std.specs.Prelude.{ℕ, cond, eqb, Float}

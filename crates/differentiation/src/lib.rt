@@ -1,96 +1,97 @@
 // The Jacobian and the time partial by differences, on the lent work.
 #![tactic(auto)]
 
-ghost use Rattle.std.specs.Prelude.{◌≡◌, ◌+◌, ◌*◌, ◌≤◌, ◌<◌, length, set};
-ghost use Rattle.vector.specs.Parts.{puts, puts_column};
-ghost use Rattle.time_difference.specs.Probes.{partial};
-ghost use Rattle.stages.specs.Memory.{component};
-ghost use Rattle.differentiation.specs.Differences.{risen, rise, quotient};
+ghost use Rattle.std.specs.Prelude.{◌≡◌, ◌+◌, ◌*◌, ◌≤◌, ◌<◌, is_some, unwrap_or, length};
+ghost use Rattle.float.specs.Operators.{𝟎};
+ghost use Rattle.stages.specs.Lent.{Becomes};
+ghost use Rattle.differentiation.specs.Differences.{risen, rise};
 ghost use Rattle.differentiation.specs.Memory.{with_probe_state, with_column, with_partial};
 
-// 2^-26
-const SQRT_EPSILON: f64 = 1.4901161193847656e-8;
+use stages::{Layout, Work};
 
+#[tactic(auto, unfolding(crate::specs::Differences::risen))]
 fn risen(y: f64) -> f64
     ensures { result ≡ risen y }
 {
-    y + SQRT_EPSILON * float::max(float::abs(y), 1.0)
+    y + float::SQRT_EPSILON * float::max(float::abs(y), 1.0)
 }
 
 // What rounding left of the rise.
+#[tactic(auto, unfolding(crate::specs::Differences::rise))]
 pub fn rise(y: f64) -> f64
     ensures { result ≡ rise y }
 {
     risen(y) - y
 }
 
-fn store(work: &mut [f64], at: usize, v: f64)
-    requires { at < length work.old }
-    ensures { work.new ≡ set work.old at v }
-{
-    work[at] = v;
-}
-
-// The state with component k risen.
+// The state with component k risen. This function and the two below ask no more of the work than they
+// write and read, where the lent work as a struct asks for all its parts. k says where to store: a caller that
+// cut the slice first would prove the same bound.
+#[tactic(auto, unfolding(crate::specs::Memory::with_probe_state, crate::specs::Differences::probe_state))]
 pub fn probe_state(work: &mut [f64], state: &[f64], n: usize, k: usize)
     requires { (8 * n ≤ length work.old) × (length state.now ≡ n) × (k < n) × (n ≤ 32) }
     ensures { work.new ≡ with_probe_state n state.now k work.old }
 {
-    let y = state[k];
-    let v = risen(y);
-    vector::put(work, 5 * n, state);
-    store(work, 5 * n + k, v);
-}
-
-fn quotients(work: &mut [f64], to: usize, n: usize, k: usize, probed: usize, base: usize, by: f64)
-    requires { (k < n) × (n ≤ 32) × (to + n * n ≤ length work.old) × (probed + n ≤ to) × (base + n ≤ to) }
-    ensures { work.new ≡ puts_column work.old to n k (quotient by (component work.old probed) (component work.old base)) n }
-{
-    let mut row = 0;
-    while row < n {
-        let x = work[probed + row];
-        let y = work[base + row];
-        work[to + (row * n + k)] = (x - y) / by;
-        row += 1;
-    }
+    let start = Layout { n, s: 0 }.probe_state().start;
+    vector::put(work, start, state);
+    work[start + k] = risen(state[k]);
 }
 
 // Column k of the Jacobian, from the derivative at the probe and the one at the state.
+#[tactic(auto, using(vector::proofs::Loops::storing, crate::proofs::Loops::get_or_column_before), unfolding(crate::specs::Memory::with_column, crate::specs::Differences::quotient))]
 pub fn column(work: &mut [f64], n: usize, k: usize, by: f64)
     requires { (8 * n + n * n ≤ length work.old) × (k < n) × (n ≤ 32) }
     ensures { work.new ≡ with_column n k by work.old }
 {
-    quotients(work, 8 * n, n, k, 6 * n, 3 * n, by);
-}
-
-fn partials(
-    work: &mut [f64],
-    to: usize,
-    base: usize,
-    second: usize,
-    n: usize,
-    two: bool,
-    d1: f64,
-    d2: f64,
-)
-    requires { (to + n ≤ length work.old) × (base + n ≤ to) × (to ≤ second) × (second + n ≤ length work.old) }
-    ensures { work.new ≡ puts work.old to
-        (λ k. partial two (component work.old base k) (component work.old to k) (component work.old second k) d1 d2) n }
-{
-    let mut k = 0;
-    while k < n {
-        let b = work[base + k];
-        let x = work[to + k];
-        let y = work[second + k];
-        work[to + k] = time_difference::partial(b, x, y, d1, d2, two);
-        k += 1;
+    let layout = Layout { n, s: 0 };
+    let to = layout.jacobian().start;
+    let probed = layout.probe_rhs().start;
+    let current = layout.current().start;
+    for row in 0..n {
+        work[to + (row * n + k)] = (work[probed + row] - work[current + row]) / by;
     }
 }
 
-// The time partial from one probe or two.
-pub fn time_partial(work: &mut [f64], n: usize, two: bool, d1: f64, d2: f64)
+// The time partial from one probe, or from two where there is a second distance.
+#[tactic(auto, using(vector::proofs::Loops::storing, crate::proofs::Loops::second_there), unfolding(crate::specs::Memory::with_partial))]
+pub fn time_partial(work: &mut [f64], n: usize, d1: f64, d2: Option<f64>)
     requires { (8 * n ≤ length work.old) × (n ≤ 32) }
-    ensures { work.new ≡ with_partial n two d1 d2 work.old }
+    ensures { work.new ≡ with_partial n (is_some d2) d1 (unwrap_or d2 𝟎) work.old }
 {
-    partials(work, 4 * n, 3 * n, 6 * n, n, two, d1, d2);
+    let layout = Layout { n, s: 0 };
+    let first = layout.time_partial().start;
+    let current = layout.current().start;
+    let second = layout.probe_rhs().start;
+    for k in 0..n {
+        let probed = d2.and(Some(work[second + k]));
+        work[first + k] = time_difference::partial(
+            work[current + k],
+            work[first + k],
+            probed,
+            d1,
+            d2,
+        );
+    }
+}
+
+// The same on the lent work as a struct, whose layout stays: else each caller would have to prove that.
+pub fn set_probe_state(work: &mut Work, state: &[f64], k: usize)
+    requires lengths { length state.now ≡ work.old.layout.n }
+    requires inside { k < work.old.layout.n }
+    ensures { Becomes work.old work.new (λ l. with_probe_state l.n state.now k) }
+{
+    probe_state(work.cells, state, work.layout.n, k);
+}
+
+pub fn set_column(work: &mut Work, k: usize, by: f64)
+    requires { k < work.old.layout.n }
+    ensures { Becomes work.old work.new (λ l. with_column l.n k by) }
+{
+    column(work.cells, work.layout.n, k, by);
+}
+
+pub fn set_time_partial(work: &mut Work, d1: f64, d2: Option<f64>)
+    ensures { Becomes work.old work.new (λ l. with_partial l.n (is_some d2) d1 (unwrap_or d2 𝟎)) }
+{
+    time_partial(work.cells, work.layout.n, d1, d2);
 }

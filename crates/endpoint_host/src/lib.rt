@@ -1,7 +1,6 @@
 // attempt_to on a stepper record that is lent by pointer, for a host in another language, under C's
-// calling convention: the record is copied out, the call is made by value, and the record is stored
-// back. No logic of its own. It stands apart from the other calls on a lent record, so that the
-// compiler need not share the attempt between two callers.
+// calling convention. No logic of its own. It stands apart from the other calls on a lent record, so
+// that the compiler need not share the attempt between two callers.
 #![tactic(auto)]
 
 ghost use Rattle.std.specs.Prelude.{◌≡◌};
@@ -10,38 +9,11 @@ ghost use Rattle.rosenbrock.specs.Stepper as call;
 ghost use Rattle.rosenbrock.specs.Outcomes.{system_of};
 ghost use Rattle.in_place_host.specs.Handed.{handed, as_numbers};
 
-use in_place_host::{CallAnswer, Stepped};
+use in_place_host::CallAnswer;
 use rosenbrock::RosenbrockStepper;
 
-// By value, with the answer as numbers.
-fn attempted_to(
-    stepper: RosenbrockStepper,
-    file: &[u8],
-    endpoint: f64,
-    proposal: f64,
-    host_jacobian: bool,
-    host_time_partial: bool,
-    state: &[f64],
-    work: &mut [f64],
-    pivots: &mut [usize],
-) -> Stepped
-    ensures { handed result.answer (system_of result.stepper state.now work.new pivots.new)
-        ≡ as_numbers (stepped (call.attempt_to file.now endpoint proposal host_jacobian host_time_partial) (system_of stepper state.now work.old pivots.old)) }
-{
-    let outcome = stepper.attempt_to(
-        file,
-        endpoint,
-        proposal,
-        host_jacobian,
-        host_time_partial,
-        state,
-        work,
-        pivots,
-    );
-    in_place_host::in_numbers(outcome)
-}
-
 #[unsafe(no_mangle)]
+#[tactic(auto, using(in_place_host::proofs::Steps::answer_handed))]
 pub extern "C" fn wiqhano_stepper_attempt_to_in_place(
     stepper: &mut RosenbrockStepper,
     file: &[u8],
@@ -56,8 +28,7 @@ pub extern "C" fn wiqhano_stepper_attempt_to_in_place(
     ensures { handed result (system_of stepper.new state.now work.new pivots.new)
         ≡ as_numbers (stepped (call.attempt_to file.now endpoint proposal host_jacobian host_time_partial) (system_of stepper.old state.now work.old pivots.old)) }
 {
-    let after = attempted_to(
-        *stepper,
+    let answer = stepper.attempt_to_in_place(
         file,
         endpoint,
         proposal,
@@ -67,6 +38,5 @@ pub extern "C" fn wiqhano_stepper_attempt_to_in_place(
         work,
         pivots,
     );
-    *stepper = after.stepper;
-    after.answer
+    answer.into()
 }

@@ -1,1 +1,1 @@
-mod Links
+mod Supplies

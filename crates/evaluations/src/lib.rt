@@ -3,260 +3,199 @@
 // where this one stops.
 #![tactic(auto)]
 
-ghost use Rattle.std.specs.Prelude.{◌≡◌, List, ℕ, ◌*◌, ◌<◌, Float, length};
-ghost use Rattle.tableau.specs.Tableau.{Tableau};
-ghost use Rattle.tableau.specs.File.{tableau_of};
-ghost use Rattle.stages.specs.Layout.{Room, Stage, PivotRows};
-ghost use Rattle.attempts.specs.declared.Counted.{Counted};
-ghost use Rattle.attempts.specs.declared.Marks.{Marks};
-ghost use Rattle.attempts.specs.Marks.{counting_jacobian, counting};
-ghost use Rattle.attempts.specs.Attempt.{Scratch, given, scratch, on_marks, differentiate, begun, evaluate, start, resume};
-ghost use Rattle.attempts.specs.Calls.{Sizes, Answers, halt_stop, moved_stop, marked};
+ghost use Rattle.std.specs.Prelude.{◌≡◌, ◌<◌, ◌+◌, length, ℕ};
+ghost use Rattle.vector.specs.Lists.{el};
+ghost use Rattle.vector.specs.Parts.{puts};
+ghost use Rattle.stages.specs.Layout.{Room};
+ghost use Rattle.stages.specs.Lent.{Becomes};
+ghost use Rattle.differentiation.specs.Differences.{rise};
+ghost use Rattle.differentiation.specs.Memory.{with_column};
+ghost use Rattle.attempts.specs.Marks.{Counted, noting, with_derivative};
+ghost use Rattle.attempts.specs.Attempt.{scratch, on_work, on_marks, choose, ask_rhs, combine, next_column, ask_jacobian, differentiate, evaluate, start, resume, wanted, place};
+ghost use Rattle.attempts.specs.Calls.{Fits, Sizes, Answers, given_by, marked, moved_stop, Halts, MovesFrom};
 
-use attempts::{Ask, Halt, Memo, Moved, Setting};
+use attempts::{Ask, Given, Halt, Memo, Moved};
+use stages::{Layout, Work};
+use stepping::Refusal;
 
 // ---- the caches
 
-// A Jacobian that is asked for is counted.
-fn jacobian_asked(halt: Halt) -> Moved
-    ensures { (x : Scratch) → moved_stop result x ≡ halt_stop halt (on_marks (counting counting_jacobian) x) }
+// given and memo are read, work and pivots written: in one struct, lent for writing, each contract would
+// have to say that the first two stay.
+
+// The host's Jacobian, or the first of its columns.
+#[tactic(auto, unfolding(attempts::specs::Attempt::ask_jacobian, attempts::specs::Attempt::choose, attempts::specs::Calls::halt_stop))]
+fn ask_jacobian(given: &Given, work: &mut Work) -> Result<Halt, Refusal>
+    requires { Sizes given.now work.old }
+    ensures { Halts result work.old work.new (ask_jacobian (given_by given.now)) }
 {
-    let mut moved = attempts::moved_by(false, false, halt);
-    moved.jacobian = true;
-    moved
+    if given.setting.host_jacobian {
+        return Ok(Halt::Jacobian(given.setting.time));
+    }
+    partials::next_column(given, work, 0)
 }
 
-// The host's Jacobian, or the first of its columns. valid: the Jacobian and the time partial are cached.
-fn differentiate(
-    g: Setting,
-    file: &[u8],
-    state: &[f64],
-    work: &mut [f64],
-    pivots: &mut [usize],
-    valid: bool,
-) -> Moved
-    requires { Sizes g (length state.now) (length work.old) × (length pivots.old ≡ g.n) }
-    ensures { (m : Marks) → m.memo.differentiation_valid ≡ valid → moved_stop result (scratch m work.new pivots.new)
-        ≡ differentiate (given g (tableau_of file.now) state.now) (scratch m work.old pivots.old) }
+// The matrix, or the Jacobian before it, unless it and the time partial are cached and valid.
+#[tactic(auto, unfolding(attempts::specs::Attempt::differentiate, attempts::specs::Attempt::choose, attempts::specs::Marks::counting, attempts::specs::Marks::counting_jacobian, attempts::specs::Calls::moved_stop, attempts::specs::Calls::moved_marks, attempts::specs::Attempt::on_marks, attempts::specs::Marks::with_caches))]
+fn differentiate(given: &Given, work: &mut Work, pivots: &mut [usize], memo: &Memo) -> Moved
+    requires { Sizes given.now work.old × (length pivots.old ≡ given.now.setting.n) }
+    ensures { MovesFrom memo.now result work.old work.new pivots.old pivots.new (differentiate (given_by given.now)) }
 {
-    if valid {
-        return attempts::factor(file, state, work, pivots, g.n, g.s, g.time, g.step);
+    if memo.differentiation_valid {
+        return given.factor(work, pivots);
     }
-    if g.host_jacobian {
-        return jacobian_asked(Halt::Jacobian(g.time));
+    Moved {
+        jacobian: true,
+        ..Moved::nothing(ask_jacobian(given, work))
     }
-    jacobian_asked(partials::next_column(g, state, work, 0))
 }
 
 // ---- the start
 
-// The candidate is the state, and the error 0.
-fn begin(g: Setting, state: &[f64], work: &mut [f64])
-    requires { Sizes g (length state.now) (length work.old) }
-    ensures { (t : Tableau) → work.new ≡ begun (given g t state.now) work.old }
-{
-    let n = g.n;
-    let end = 2 * n;
-    vector::put(work, 0, state);
-    vector::fill(&mut work[n..end], 0.0);
-}
-
-fn evaluate(
-    g: Setting,
-    file: &[u8],
-    state: &[f64],
-    work: &mut [f64],
-    pivots: &mut [usize],
-    memo: Memo,
-) -> Moved
-    requires { Sizes g (length state.now) (length work.old) × (length pivots.old ≡ g.n) }
-    ensures { (c : Counted) → moved_stop result (scratch (marked memo c) work.new pivots.new)
-        ≡ evaluate (given g (tableau_of file.now) state.now) (scratch (marked memo c) work.old pivots.old) }
+#[tactic(auto, unfolding(attempts::specs::Attempt::evaluate, attempts::specs::Attempt::choose, attempts::specs::Calls::halt_stop, attempts::specs::Calls::moved_stop, attempts::specs::Calls::moved_marks, attempts::specs::Attempt::on_marks, attempts::specs::Marks::with_caches))]
+fn evaluate(given: &Given, work: &mut Work, pivots: &mut [usize], memo: &Memo) -> Moved
+    requires { Sizes given.now work.old × (length pivots.old ≡ given.now.setting.n) }
+    ensures { MovesFrom memo.now result work.old work.new pivots.old pivots.new (evaluate (given_by given.now)) }
 {
     if memo.derivative_valid {
-        return differentiate(g, file, state, work, pivots, memo.differentiation_valid);
+        differentiate(given, work, pivots, memo)
+    } else {
+        Moved::nothing(Ok(Halt::Derivative(given.setting.time)))
     }
-    attempts::moved_by(false, false, Halt::Derivative(g.time))
 }
 
-// Opens an attempt.
-pub fn start(
-    g: Setting,
-    file: &[u8],
-    state: &[f64],
-    work: &mut [f64],
+// Opens an attempt: the candidate is the state, and the error 0.
+#[tactic(auto, unfolding(attempts::specs::Attempt::start, attempts::specs::Attempt::on_work, attempts::specs::Attempt::begun, attempts::specs::Attempt::choose, attempts::specs::Attempt::show, attempts::specs::Calls::halt_stop, attempts::specs::Calls::moved_stop, attempts::specs::Calls::moved_marks, attempts::specs::Attempt::on_marks, attempts::specs::Marks::with_caches))]
+pub fn start(given: &Given, work: &mut [f64], pivots: &mut [usize], memo: &Memo) -> Moved
+    requires { Room given.now.setting.n given.now.setting.s (length work.old) × Fits given.now × (length pivots.old ≡ given.now.setting.n) }
+    ensures { (c : Counted) → moved_stop result (scratch (marked memo.now c) work.new pivots.new)
+        ≡ start (given_by given.now) (scratch (marked memo.now c) work.old pivots.old) }
+{
+    let layout = Layout {
+        n: given.setting.n,
+        s: given.setting.s,
+    };
+    let mut work = Work {
+        cells: work,
+        layout,
+    };
+    work.set_candidate(given.state);
+    work.clear_error();
+    if given.setting.step == 0.0 {
+        return Moved::nothing(Ok(Halt::Shows(attempts::shows_error(given.file))));
+    }
+    evaluate(given, &mut work, pivots, memo)
+}
+
+// ---- what a supply does: the values are written, then tested. What was asked stands in C's record, as
+// numbers: it holds no closure that would go on, so a match chooses
+
+#[tactic(auto, unfolding(attempts::specs::Attempt::place, attempts::specs::Attempt::wanted))]
+fn store(work: &mut Work, ask: Ask, values: &[f64])
+    requires stage { (i : ℕ) → ask ≡ Ask.Stage i → i < work.old.layout.s }
+    requires lengths { length values.now ≡ wanted work.old.layout.n ask }
+    ensures { Becomes work.old work.new (λ l w. puts w (place l.n l.s ask) (el values.now) (wanted l.n ask)) }
+{
+    match ask {
+        Ask::Derivative => work.set_current(values),
+        Ask::Jacobian => work.set_jacobian(values),
+        Ask::TimePartial | Ask::FirstProbe => work.set_time_partial(values),
+        Ask::SecondProbe | Ask::Column(_) => work.set_probe_rhs(values),
+        Ask::Stage(i) => work.set_rhs_stage(i, values),
+    }
+}
+
+// The derivative at the accepted state is there, and finite.
+#[tactic(auto, using(attempts::proofs::Links::or_true), unfolding(attempts::specs::Marks::noting, attempts::specs::Marks::with_derivative, attempts::specs::Calls::moved_stop, attempts::specs::Calls::moved_marks, attempts::specs::Attempt::on_marks, attempts::specs::Marks::with_caches))]
+fn derivative_done(given: &Given, work: &mut Work, pivots: &mut [usize], memo: &Memo) -> Moved
+    requires { Sizes given.now work.old × (length pivots.old ≡ given.now.setting.n) }
+    ensures { MovesFrom memo.now result work.old work.new pivots.old pivots.new (λ x. differentiate (given_by given.now) (on_marks (noting with_derivative) x)) }
+{
+    let memo = Memo {
+        derivative_valid: true,
+        ..*memo
+    };
+    Moved {
+        derivative: true,
+        ..differentiate(given, work, pivots, &memo)
+    }
+}
+
+// That at the first time probe is.
+#[tactic(auto, unfolding(attempts::specs::Attempt::choose, attempts::specs::Calls::halt_stop, attempts::specs::Marks::second_probe, attempts::specs::Calls::moved_stop, attempts::specs::Calls::moved_marks, attempts::specs::Attempt::on_marks, attempts::specs::Marks::with_caches))]
+fn first_probe_done(given: &Given, work: &mut Work, pivots: &mut [usize], memo: &Memo) -> Moved
+    requires { Sizes given.now work.old × (length pivots.old ≡ given.now.setting.n) }
+    ensures { MovesFrom memo.now result work.old work.new pivots.old pivots.new
+        (λ x. choose x.marks.memo.two_probes (ask_rhs Ask.SecondProbe x.marks.memo.second_probe x) (combine (given_by given.now) x)) }
+{
+    match memo.second_probe() {
+        Some(second) => Moved::nothing(Ok(Halt::SecondProbe(second))),
+        None => partials::combine(given, work, pivots, memo),
+    }
+}
+
+// That at the probe of column k is.
+#[tactic(auto, unfolding(attempts::specs::Attempt::on_work))]
+fn column_done(given: &Given, work: &mut Work, k: usize) -> Result<Halt, Refusal>
+    requires { Sizes given.now work.old × (k < given.now.setting.n) }
+    ensures { Halts result work.old work.new
+        (λ x. next_column (given_by given.now) (k + 1) (on_work (with_column given.now.setting.n k (rise (el given.now.state.now k))) x)) }
+{
+    differentiation::set_column(work, k, differentiation::rise(given.state[k]));
+    partials::next_column(given, work, k + 1)
+}
+
+// Goes on with what was asked for. Each arm that has much to hold is a function of its own: what a function
+// holds in any of its arms is cleared as it is entered.
+#[tactic(auto, using(crate::proofs::Supplies::read_back, crate::proofs::Supplies::rows), unfolding(stepping::specs::Refusals::first_of, attempts::specs::Attempt::resume, attempts::specs::Attempt::written, attempts::specs::Attempt::place, attempts::specs::Attempt::wanted, attempts::specs::Attempt::on_work, attempts::specs::Attempt::partial_done, attempts::specs::Attempt::jacobian_done, attempts::specs::Attempt::provided, attempts::specs::Attempt::choose, attempts::specs::Calls::halt_stop, attempts::specs::Calls::moved_stop, attempts::specs::Calls::moved_marks, attempts::specs::Attempt::on_marks, attempts::specs::Marks::with_caches))]
+fn resume_on(
+    given: &Given,
+    work: &mut Work,
     pivots: &mut [usize],
-    memo: Memo,
-) -> Moved
-    requires { Sizes g (length state.now) (length work.old) × (length pivots.old ≡ g.n) }
-    ensures { (c : Counted) → moved_stop result (scratch (marked memo c) work.new pivots.new)
-        ≡ start (given g (tableau_of file.now) state.now) (scratch (marked memo c) work.old pivots.old) }
-{
-    begin(g, state, work);
-    if g.step == 0.0 {
-        return attempts::moved_by(false, false, Halt::Shows(attempts::shows_error(file)));
-    }
-    evaluate(g, file, state, work, pivots, memo)
-}
-
-// ---- what a supply does: the values are written, then tested
-
-fn resume_derivative(
-    g: Setting,
-    file: &[u8],
-    state: &[f64],
-    work: &mut [f64],
-    pivots: &mut [usize],
-    memo: Memo,
-    values: &[f64],
-) -> Moved
-    requires { Sizes g (length state.now) (length work.old) × (length pivots.old ≡ g.n) × (length values.now ≡ g.n) }
-    ensures { (c : Counted) → moved_stop result (scratch (marked memo c) work.new pivots.new)
-        ≡ resume (given g (tableau_of file.now) state.now) Ask.Derivative values.now (scratch (marked memo c) work.old pivots.old) }
-{
-    vector::put(work, 3 * g.n, values);
-    if !vector::all_finite(values) {
-        return attempts::moved_by(false, false, Halt::Ends(stepping::NON_FINITE));
-    }
-    let mut moved = differentiate(g, file, state, work, pivots, memo.differentiation_valid);
-    moved.derivative = true;
-    moved
-}
-
-fn resume_jacobian(g: Setting, work: &mut [f64], values: &[f64]) -> Halt
-    requires { Room g.n g.s (length work.old) × (length values.now ≡ g.n * g.n) }
-    ensures { (t : Tableau) (state : List Float) (m : Marks) (p : List ℕ) → halt_stop result (scratch m work.new p)
-        ≡ resume (given g t state) Ask.Jacobian values.now (scratch m work.old p) }
-{
-    vector::put(work, 8 * g.n, values);
-    if !vector::all_finite(values) {
-        return Halt::Ends(stepping::NON_FINITE);
-    }
-    if g.host_time_partial {
-        return Halt::TimePartial(g.time);
-    }
-    partials::ask_probes(g)
-}
-
-fn resume_first_probe(
-    g: Setting,
-    file: &[u8],
-    state: &[f64],
-    work: &mut [f64],
-    pivots: &mut [usize],
-    memo: Memo,
-    values: &[f64],
-) -> Moved
-    requires { Sizes g (length state.now) (length work.old) × (length pivots.old ≡ g.n) × (length values.now ≡ g.n) }
-    ensures { (c : Counted) → moved_stop result (scratch (marked memo c) work.new pivots.new)
-        ≡ resume (given g (tableau_of file.now) state.now) Ask.FirstProbe values.now (scratch (marked memo c) work.old pivots.old) }
-{
-    vector::put(work, 4 * g.n, values);
-    if !vector::all_finite(values) {
-        return attempts::moved_by(false, false, Halt::Ends(stepping::NON_FINITE));
-    }
-    if memo.two_probes {
-        return attempts::moved_by(false, false, Halt::SecondProbe(memo.second_probe));
-    }
-    partials::combine(g, file, state, work, pivots, memo)
-}
-
-fn resume_second_probe(
-    g: Setting,
-    file: &[u8],
-    state: &[f64],
-    work: &mut [f64],
-    pivots: &mut [usize],
-    memo: Memo,
-    values: &[f64],
-) -> Moved
-    requires { Sizes g (length state.now) (length work.old) × (length pivots.old ≡ g.n) × (length values.now ≡ g.n) }
-    ensures { (c : Counted) → moved_stop result (scratch (marked memo c) work.new pivots.new)
-        ≡ resume (given g (tableau_of file.now) state.now) Ask.SecondProbe values.now (scratch (marked memo c) work.old pivots.old) }
-{
-    vector::put(work, 6 * g.n, values);
-    if !vector::all_finite(values) {
-        return attempts::moved_by(false, false, Halt::Ends(stepping::NON_FINITE));
-    }
-    partials::combine(g, file, state, work, pivots, memo)
-}
-
-fn resume_column(g: Setting, state: &[f64], work: &mut [f64], k: usize, values: &[f64]) -> Halt
-    requires { Sizes g (length state.now) (length work.old) × (k < g.n) × (length values.now ≡ g.n) }
-    ensures { (t : Tableau) (m : Marks) (p : List ℕ) → halt_stop result (scratch m work.new p)
-        ≡ resume (given g t state.now) (Ask.Column k) values.now (scratch m work.old p) }
-{
-    let n = g.n;
-    let y = state[k];
-    vector::put(work, 6 * n, values);
-    if !vector::all_finite(values) {
-        return Halt::Ends(stepping::NON_FINITE);
-    }
-    differentiation::column(work, n, k, differentiation::rise(y));
-    partials::next_column(g, state, work, k + 1)
-}
-
-fn resume_stage(
-    g: Setting,
-    file: &[u8],
-    state: &[f64],
-    work: &mut [f64],
-    pivots: &[usize],
-    i: usize,
-    values: &[f64],
-) -> Moved
-    requires { Sizes g (length state.now) (length work.old) × Stage g.n g.s i × PivotRows g.n pivots.now × (length values.now ≡ g.n) }
-    ensures { (m : Marks) → moved_stop result (scratch m work.new pivots.now)
-        ≡ resume (given g (tableau_of file.now) state.now) (Ask.Stage i) values.now (scratch m work.old pivots.now) }
-{
-    let n = g.n;
-    let s = g.s;
-    vector::put(work, 8 * n + 2 * (n * n) + s * n + i * n, values);
-    if !vector::all_finite(values) {
-        return attempts::moved_by(false, false, Halt::Ends(stepping::NON_FINITE));
-    }
-    let outcome = attempts::solve_stage(file, state, work, pivots, n, s, g.time, g.step, i);
-    attempts::moved_by(false, true, attempts::stage_halt(outcome))
-}
-
-// Goes on with what was asked for.
-pub fn resume(
-    g: Setting,
-    file: &[u8],
-    state: &[f64],
-    work: &mut [f64],
-    pivots: &mut [usize],
-    memo: Memo,
+    memo: &Memo,
     ask: Ask,
     values: &[f64],
 ) -> Moved
-    requires { Sizes g (length state.now) (length work.old) × (length pivots.old ≡ g.n) × Answers g pivots.old ask (length values.now) }
-    ensures { (c : Counted) → moved_stop result (scratch (marked memo c) work.new pivots.new)
-        ≡ resume (given g (tableau_of file.now) state.now) ask values.now (scratch (marked memo c) work.old pivots.old) }
+    requires { Sizes given.now work.old × (length pivots.old ≡ given.now.setting.n) × Answers given.now.setting pivots.old ask (length values.now) }
+    ensures { MovesFrom memo.now result work.old work.new pivots.old pivots.new (resume (given_by given.now) ask values.now) }
 {
-    let n = g.n;
-    match ask {
-        Ask::Derivative => {
-            return resume_derivative(g, file, state, work, pivots, memo, values);
-        }
-        Ask::Jacobian => {
-            return attempts::moved_by(false, false, resume_jacobian(g, work, values));
-        }
-        Ask::TimePartial => {
-            vector::put(work, 4 * n, values);
-            return partials::partial_done(g, file, state, work, pivots);
-        }
-        Ask::FirstProbe => {
-            return resume_first_probe(g, file, state, work, pivots, memo, values);
-        }
-        Ask::SecondProbe => {
-            return resume_second_probe(g, file, state, work, pivots, memo, values);
-        }
-        Ask::Column(k) => {
-            return attempts::moved_by(false, false, resume_column(g, state, work, k, values));
-        }
-        Ask::Stage(i) => {
-            return resume_stage(g, file, state, work, pivots, i, values);
-        }
+    store(work, ask, values);
+    if let Err(refusal) = stepping::finite(values) {
+        return Moved::nothing(Err(refusal));
     }
+    match ask {
+        Ask::Derivative => derivative_done(given, work, pivots, memo),
+        Ask::Jacobian => Moved::nothing(partials::ask_partial(given)),
+        Ask::TimePartial => partials::differentiated(given, work, pivots),
+        Ask::FirstProbe => first_probe_done(given, work, pivots, memo),
+        Ask::SecondProbe => partials::combine(given, work, pivots, memo),
+        Ask::Column(k) => Moved::nothing(column_done(given, work, k)),
+        Ask::Stage(i) => given.solve_stage(work, pivots, i),
+    }
+}
+
+// start and resume each make the work for one call: a function that hands it out would need a clause on what is
+// left in it.
+pub fn resume(
+    given: &Given,
+    work: &mut [f64],
+    pivots: &mut [usize],
+    memo: &Memo,
+    ask: Ask,
+    values: &[f64],
+) -> Moved
+    requires { Room given.now.setting.n given.now.setting.s (length work.old) × Fits given.now × (length pivots.old ≡ given.now.setting.n)
+        × Answers given.now.setting pivots.old ask (length values.now) }
+    ensures { (c : Counted) → moved_stop result (scratch (marked memo.now c) work.new pivots.new)
+        ≡ resume (given_by given.now) ask values.now (scratch (marked memo.now c) work.old pivots.old) }
+{
+    let layout = Layout {
+        n: given.setting.n,
+        s: given.setting.s,
+    };
+    let mut work = Work {
+        cells: work,
+        layout,
+    };
+    resume_on(given, &mut work, pivots, memo, ask, values)
 }

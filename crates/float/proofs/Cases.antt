@@ -1,5 +1,5 @@
 -- Laws of Bool: a definition that goes by `cond`, one test at a time, with no rewriting of the goal; tests that are joined. Assumes nothing.
-use mathlib.Core.Path.{◌≡◌, refl, sym, ap, ◌∙◌, subst}
+use mathlib.Core.Path.{◌≡◌, refl, sym, ◌∙◌, subst}
 use mathlib.Core.Bool.{Bool, true, false, not, ◌&&◌, ◌||◌, cond, true≢false}
 use lib.Dec.{T}
 use borrow.Author.Tests.{not-true, not-false}
@@ -21,13 +21,6 @@ module _ {A : Type 0} where
   pub never : {b : Bool} → b ≡ true → b ≡ false → A
   never p q = absurd (true≢false (sym p ∙ q))
 
--- the same for tests that are joined by `||`
-pub or_here : {a : Bool} (b : Bool) → a ≡ true → true ≡ (a || b)
-or_here b h = simp h
-
-pub or_next : {a b w : Bool} → a ≡ false → w ≡ b → w ≡ (a || b)
-or_next h q = simp h q
-
 -- as a type
 pub holds : {b : Bool} → b ≡ true → T b
 holds e = subst T (sym e) tt
@@ -39,18 +32,12 @@ told_no {r} e h = sym e ∙ not-true r h
 pub told_yes : {r b : Bool} → r ≡ b → not r ≡ false → b ≡ true
 told_yes {r} e h = sym e ∙ not-false r h
 
-pub told_not : {r b v : Bool} → r ≡ b → not r ≡ v → not b ≡ v
-told_not e h = sym (ap not e) ∙ h
-
 -- a call that joins what two calls answered
 pub joined : {r x y a b : Bool} → r ≡ (x && y) → x ≡ a → y ≡ b → r ≡ (a && b)
 joined p q s = cc
 
 pub both : {a b : Bool} → a ≡ true → b ≡ true → (a && b) ≡ true
 both e h = simp (e, h)
-
-pub and_yes : {a b : Bool} → a ≡ true → b ≡ (a && b)
-and_yes h = simp h
 
 pub and_no : {a : Bool} (b : Bool) → a ≡ false → (a && b) ≡ false
 and_no b e = simp e

@@ -1,35 +1,18 @@
--- Numbers above 0. Finite and above 0 is `x - x < x`, since x - x is 0 for a finite x and a NaN for any other. Assumes nothing.
+-- Numbers above 0. Assumes nothing.
 use Prim.Native.Nat.{ℕ, zero, suc, ◌*◌}
 use native.Mathlib.Nat.{zero-lt-suc, suc-ne-zero}
-use mathlib.Core.Path.{◌≡◌, refl, sym, ap, ◌∙◌}
-use mathlib.Core.Bool.{Bool, true, false, ◌&&◌, cond, false≢true}
-use lib.IntN.{ℤ, pos}
+use mathlib.Core.Path.{◌≡◌, refl, sym}
+use mathlib.Core.Bool.{Bool, true, false, cond, false≢true}
+use lib.IntN.{ℤ}
 use lib.Dec.{T, lt→ltb}
-use lib.Ieee.{Float, nan, inf, fin, binary64, up, down, round, of_bits, lt, le, eq, neg, add, sub, div, is_nan}
+use lib.Ieee.{Float, nan, inf, fin, binary64, up, down, round, lt, le, eq, div, is_nan}
 use lib.Ieee.Scale.{finite}
 use lib.Ieee.Positive.{positive, above}
 use borrow.Author.Tests.{ne_eqb}
-use Rattle.float.specs.Operators.{◌⊖◌, ◌⊘◌, 𝟎}
-use Rattle.float.specs.Methods.{finite_positive, min_num}
+use Rattle.float.specs.Operators.{◌⊘◌, 𝟎}
+use Rattle.float.specs.Methods.{min_num}
 use Rattle.float.proofs.Cases.{no, never, or_yes, or_yes_right}
-use Rattle.float.proofs.Laws.{minus_self, eq_some, eq_zero, lt_minus}
-
-and_true : (b : Bool) → b ≡ (b && true)
-and_true true = refl
-and_true false = refl
-
-zero_is : fin false 0 (pos 0) ≡ 𝟎
-unfolding of_bits
-zero_is = refl
-
-pub less_than_self : (x : Float) → lt (x ⊖ x) x ≡ finite_positive x
-unfolding finite_positive
-less_than_self nan = unfold sub add lt of_bits in refl
-less_than_self (inf true) = unfold sub add neg lt of_bits in refl
-less_than_self (inf false) = unfold sub add neg lt of_bits in refl
-less_than_self (fin s m e) = ap (λ (z : Float). lt z (fin s m e)) (minus_self s m e ∙ zero_is) ∙ and_true (lt 𝟎 (fin s m e))
-
--- ---- numbers above 0
+use Rattle.float.proofs.Laws.{eq_some, eq_zero, lt_minus}
 
 pub above-finite : (x : Float) → finite x ≡ true → T (above x) → T (positive x)
 above-finite nan f a = absurd a

@@ -1,4 +1,4 @@
--- The constants of the scope paper and of the Rust, as the bits of IEEE 754 binary64 (3.4). Beside each stands the power of two that it is, or the
+-- The constants of the Rust, as the bits of IEEE 754 binary64 (3.4). Beside each stands the power of two that it is, or the
 -- fraction that it is the rounding of. `fin false m e` is m times 2 to the e, and `round binary64 false a b` the double nearest to a / b.
 use Rattle.std.specs.Prelude.{◌≡◌, refl, false, ℕ, ◌+◌, ◌-◌, ◌*◌, ◌^◌, ◌<◌, negsuc, Float}
 use Rattle.std.proofs.Common.{lit<}

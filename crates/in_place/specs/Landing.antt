@@ -1,10 +1,12 @@
--- accept and reject with the answer as a number: a refusal's, or 0. Definitions only.
-use Rattle.std.specs.Prelude.{ℕ, cond, List, eqb, Float}
+-- accept and reject on a lent record: done, or a refusal. Definitions only.
+use Rattle.std.specs.Prelude.{ℕ, List, Float, Result, ⊤}
+use Rattle.stepping.specs.declared.Refusal.{Refusal}
+use Rattle.stepping.specs.Refusals.{unless_refused}
 use Rattle.rosenbrock.specs.declared.RosenbrockStepper.{RosenbrockStepper}
 use Rattle.refusals.specs.Answers.{refused, done}
 use Rattle.rosenbrock.specs.Stepper.{Next}
 use Rattle.rosenbrock.specs.Outcomes.{system_of}
 
--- the record, the number and the lent memory, as the definitions have them
-unfoldable pub landed : RosenbrockStepper → ℕ → List Float → List Float → List ℕ → Next
-landed y number state work pivots = record { system = system_of y state work pivots; answer = cond (eqb number 0) done (refused number) }
+-- the record, the answer and the lent memory, as the definitions have them
+unfoldable pub landed : RosenbrockStepper → Result ⊤ Refusal → List Float → List Float → List ℕ → Next
+landed y answer state work pivots = record { system = system_of y state work pivots; answer = unless_refused refused answer done }

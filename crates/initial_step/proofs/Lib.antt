@@ -1,5 +1,2 @@
--- Laws that the functions' proofs cite. `Never` has the theorems on the last two tests.
-mod General
-mod Norms
-mod Guards
+-- `Never` has the theorems on the last two tests.
 pub mod Never

@@ -8,14 +8,14 @@ use native.Mathlib.Nat.{le_trans, le_of_eq, le_of_lt, one-mul, mul_comm, mul_ass
 use native.Mathlib.Omega.{arith}
 use lib.ListN.{length}
 use lib.IntN.{pos}
-use lib.Dec.{T, leb, ltb, eqb, leb→le, ltb→lt}
+use lib.Dec.{T, leb, ltb, leb→le, ltb→lt}
 use lib.Pow.{pow_pos}
 use lib.Ieee.{Float, nan, inf, fin, binary64, up, down, round, of_bits, mul, div, lt, eq, le, ne, fits, of_int}
 use lib.Ieee.Fits.{up_pos, down_pos, mul-fits}
 use lib.Ieee.Scale.{finite}
 use lib.Ieee.Order.{round_mono}
 use lib.Ieee.Positive.{num, den, positive, above, above_of_le, le→cross, mul_mono}
-use borrow.Author.Tests.{eqb-true, not-false}
+use Rattle.std.specs.Prelude.{Result, Ok, Err, ⊤}
 use Rattle.float.specs.Operators.{◌⊗◌, ◌⊘◌, 𝟎, 𝟏}
 use Rattle.float.specs.Constants.{ten⁻⁵, ten⁻⁶, hundredth}
 use Rattle.float.specs.Methods.{abs, min_num}
@@ -26,11 +26,10 @@ use Rattle.float.proofs.Order.{not_lt_le}
 use Rattle.vector.specs.Lists.{every, all_finite}
 use Rattle.vector.proofs.Lists.{finite_at}
 use Rattle.square_root.specs.Root.{square_root}
-use Rattle.stepping.specs.Dimension.{same_dimension}
-use Rattle.stepping.specs.Refusals.{first_step, first_of, unless_refused}
-use Rattle.stepping.proofs.Refusals.{here, later, none, passed, is_refused, is_answered}
-use Rattle.initial_step.specs.declared.FirstStep.{FirstStep}
-use Rattle.initial_step.specs.declared.FirstStep.TheVariants.{Step, Refused}
+use Rattle.stepping.specs.declared.Refusal.{Refusal}
+use Rattle.stepping.specs.declared.Refusal.TheVariants.{Dimension, NonFinite, Direction, TimeResolution, FirstStep}
+use Rattle.stepping.specs.Refusals.{first_of, unless_refused}
+use Rattle.stepping.proofs.Refusals.{here, later, none, passed, held, is_refused, is_answered}
 use Rattle.initial_step.specs.Norm.{scaled_sum, mean, ratios, rms}
 use Rattle.initial_step.specs.First.{all_above, undirected, input_tests, slight, unbounded, guess, norm_tests, proposed, initial_step, plain_step}
 
@@ -138,19 +137,19 @@ module _ (d₀ d₁ maximum : Float) (held : T (fits binary64 d₁)) (top : T (p
       go false true false p q r h = absurd (false≢true (sym h))
       go false false z p q r h = absurd (false≢true (sym h))
 
-  pub last_two : (direct : Float) → proposed d₀ d₁ direct maximum ≡ cond (unbounded d₀ d₁) (Refused first_step) (Step (direct ⊗ min_num (guess d₀ d₁ maximum) maximum))
+  pub last_two : (direct : Float) → proposed d₀ d₁ direct maximum ≡ cond (unbounded d₀ d₁) (Err FirstStep) (Ok (direct ⊗ min_num (guess d₀ d₁ maximum) maximum))
   unfolding proposed
   last_two direct = go (unbounded d₀ d₁) refl
     where
-      answer : FirstStep
-      answer = Step (direct ⊗ min_num (guess d₀ d₁ maximum) maximum)
+      answer : Result Float Refusal
+      answer = Ok (direct ⊗ min_num (guess d₀ d₁ maximum) maximum)
 
-      go : (x : Bool) → unbounded d₀ d₁ ≡ x → unless_refused Refused (first_of (norm_tests d₀ d₁ maximum)) answer ≡ cond x (Refused first_step) answer
-      go true h = sym (is_refused Refused answer (here 9 _ h) (λ z. omega arith))
+      go : (x : Bool) → unbounded d₀ d₁ ≡ x → unless_refused Err (first_of (norm_tests d₀ d₁ maximum)) answer ≡ cond x (Err FirstStep) answer
+      go true h = sym (is_refused Err answer (here FirstStep _ h))
       go false h =
           let p = guess-positive h in
           let g = guess d₀ d₁ maximum in
-          sym (is_answered Refused (later 9 _ h (later 2 _ (ap not (positive-finite g p)) (later 5 [] (positive_some g p) none))) refl)
+          sym (is_answered Err (later FirstStep _ h (later NonFinite _ (ap not (positive-finite g p)) (later TimeResolution [] (positive_some g p) none))) refl)
 
 -- ---- the call
 rms-fits : (v s : List Float) → T (fits binary64 (rms v s))
@@ -164,29 +163,24 @@ rms-fits v s = go (every (length v) (λ j. finite (ratios v s j)))
     go false = tt
 
 module _ (y f s : List Float) (direct maximum : Float) where
-  maximum-positive : first_of (input_tests y f s direct maximum) ≡ 0 → T (positive maximum)
+  maximum-positive : first_of (input_tests y f s direct maximum) ≡ Ok tt → T (positive maximum)
   unfolding input_tests undirected
   maximum-positive h =
-      let p = (passed 0 (not (same_dimension (length y) (length f) (length s))) _ h).1 in
-      let p₂ = (passed 1 (not (all_finite s)) _ (passed 1 (not (all_finite f)) _ (passed 1 (not (all_finite y)) _ p).1).1).1 in
-      let q = passed 1 (not (all_finite (direct ∷ maximum ∷ []))) _ p₂ in
-      let u = (passed 3 (not (all_above s) || (ne (abs direct) 𝟏 || le maximum 𝟎)) [] q.1).0 in
-      over_zero maximum (finite_at (direct ∷ maximum ∷ []) 1 (not-false (all_finite (direct ∷ maximum ∷ [])) q.0) (omega arith))
-      (or_right (ne (abs direct) 𝟏) (le maximum 𝟎) (or_right (not (all_above s)) _ u))
+      let p = (held NonFinite _ _ (held NonFinite _ _ (held NonFinite _ _ (held Dimension _ _ h).1).1).1).1 in
+      let q = held NonFinite (all_finite (direct ∷ maximum ∷ [])) _ p in
+      let u = (passed Direction (not (all_above s) || (ne (abs direct) 𝟏 || le maximum 𝟎)) [] q.1).0 in
+      over_zero maximum (finite_at (direct ∷ maximum ∷ []) 1 q.0 (omega arith)) (or_right (ne (abs direct) 𝟏) (le maximum 𝟎) (or_right (not (all_above s)) _ u))
 
   pub never_hold : initial_step y f s direct maximum ≡ plain_step y f s direct maximum
   unfolding initial_step plain_step unless_refused
-  never_hold = go (eqb (first_of (input_tests y f s direct maximum)) 0) refl
+  never_hold = go (first_of (input_tests y f s direct maximum)) refl
     where
-      k : ℕ
-      k = first_of (input_tests y f s direct maximum)
-
-      go : (b : Bool) → eqb k 0 ≡ b
-          → cond b (proposed (rms y s) (rms f s) direct maximum) (Refused k)
-          ≡ cond b (cond (unbounded (rms y s) (rms f s)) (Refused first_step) (Step (direct ⊗ min_num (guess (rms y s) (rms f s) maximum) maximum))) (Refused k)
-      go true e = last_two (rms y s) (rms f s) maximum (rms-fits f s) (maximum-positive (eqb-true k 0 e)) direct
-      go false e = refl
+      go : (r : Result ⊤ Refusal) → first_of (input_tests y f s direct maximum) ≡ r
+          → unless_refused Err r (proposed (rms y s) (rms f s) direct maximum)
+          ≡ unless_refused Err r (cond (unbounded (rms y s) (rms f s)) (Err FirstStep) (Ok (direct ⊗ min_num (guess (rms y s) (rms f s) maximum) maximum)))
+      go (Ok x) e = last_two (rms y s) (rms f s) maximum (rms-fits f s) (maximum-positive e) direct
+      go (Err k) e = refl
 
   -- each minimum is with the maximum, which is then no zero
-  pub maximum_no_zero : first_of (input_tests y f s direct maximum) ≡ 0 → eq maximum 𝟎 ≡ false
+  pub maximum_no_zero : first_of (input_tests y f s direct maximum) ≡ Ok tt → eq maximum 𝟎 ≡ false
   maximum_no_zero h = positive_some maximum (maximum-positive h)

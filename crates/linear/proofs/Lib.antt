@@ -1,5 +1,4 @@
 -- Laws that dependents may cite.
-pub mod Rooms
 pub mod Magnitudes
 pub mod Pivoting
 pub mod Exchanges

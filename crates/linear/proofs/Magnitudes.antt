@@ -1,12 +1,16 @@
 -- The scale of a matrix is no NaN: so each maximum that makes it is one comparison. It has no minus sign: so where Rust may choose the sign of a maximum of
 -- two zeros, both are +0; and it is at most 0 only as 0. Assumes nothing.
-use Prim.Native.Nat.{ℕ, zero, suc, ◌+◌}
+use Prim.Native.Nat.{ℕ, zero, suc, ◌≤◌}
+use native.Mathlib.Omega.{arith}
 use native.Mathlib.Numerals.{add-one}
 use mathlib.Core.Path.{◌≡◌, refl, sym, ap, ◌∙◌}
 use mathlib.Core.Bool.{true, false, cond, true≢false, false≢true}
 use mathlib.Core.List.{List}
-use lib.ListN.{length}
+use lib.ListN.{length, take}
+use lib.Seq.{take_all}
 use lib.Ieee.{Float, nan, inf, fin, is_nan, lt, le, eq, of_bits}
+use Rattle.std.specs.List.{fold}
+use Rattle.std.proofs.lemmas.List.Sums.{fold_more}
 use Rattle.float.specs.Operators.{𝟎}
 use Rattle.float.specs.Methods.{abs, max_num}
 use Rattle.float.proofs.Cases.{by}
@@ -36,17 +40,20 @@ unfolding largest is_nan of_bits
 scale_some a zero = refl
 scale_some a (suc k) = max_some (largest a k) (abs (el a k)) (scale_some a k)
 
--- a loop that gathers it: none, and one more
-pub largest_none : (a : List Float) → 𝟎 ≡ largest a 0
+-- gathered from the left, one comparison at each element
+gathered : (a : List Float) (k : ℕ) → k ≤ length a → fold (λ m x. cond (lt m (abs x)) (abs x) m) 𝟎 (take k a) ≡ largest a k
 unfolding largest
-largest_none a = refl
+gathered a zero h = refl
+gathered a (suc k) h =
+    ap (λ (j : ℕ). fold (λ m x. cond (lt m (abs x)) (abs x) m) 𝟎 (take j a)) (sym (add-one k))
+    ∙ fold_more (λ m x. cond (lt m (abs x)) (abs x) m) 𝟎 a k nan (omega arith)
+    ∙ ap (λ (m : Float). cond (lt m (abs (el a k))) (abs (el a k)) m) (gathered a k (omega arith))
+    ∙ sym (max_number (largest a k) (abs (el a k)) (scale_some a k))
 
-pub largest_more : (a : List Float) (i : ℕ) {r m x : Float} → m ≡ largest a i → x ≡ abs (el a i) → r ≡ cond (lt m x) x m → r ≡ largest a (i + 1)
-unfolding largest
-largest_more a i {r} {m} {x} e f g =
-    g
-    ∙ rw (e, f) (sym (max_number (largest a i) (abs (el a i)) (scale_some a i)))
-    ∙ ap (largest a) (sym (add-one i))
+pub scale_gathered : (a : List Float) → fold (λ m x. cond (lt m (abs x)) (abs x) m) 𝟎 a ≡ scale a
+unfolding scale
+scale_gathered a =
+    ap (fold (λ m x. cond (lt m (abs x)) (abs x) m) 𝟎) (sym (take_all (length a) a (omega arith))) ∙ gathered a (length a) (omega arith)
 
 -- ---- no minus sign
 pub scale_plain : (a : List Float) (k : ℕ) → negative (largest a k) ≡ false

@@ -15,10 +15,11 @@ use Rattle.vector.specs.Matrices.{entry}
 use Rattle.vector.specs.Parts.{puts}
 use Rattle.vector.proofs.Lists.{table_at, every_of}
 use Rattle.vector.proofs.Matrices.{length-rows}
-use Rattle.stepping.specs.Refusals.{singular}
-use Rattle.linear.specs.declared.Factorization.TheVariants.{Factored, Refused}
+use Rattle.std.specs.Prelude.{Result, Ok, Err, ⊤}
+use Rattle.stepping.specs.declared.Refusal.{Refusal}
+use Rattle.stepping.specs.declared.Refusal.TheVariants.{Singular}
 use Rattle.linear.specs.Elimination.{scale, threshold, unusable, eliminated, pivot_of, stepped, steps_done}
-use Rattle.linear.specs.Calls.{number_of, Outcome, outcome, after, elimination_of, raw_of}
+use Rattle.linear.specs.Calls.{Outcome, outcome, after, elimination_of, raw_of}
 use Rattle.linear.proofs.Pivoting.{search_below}
 
 pub length-eliminated : (n : ℕ) (a : List Float) (k : ℕ) → length a ≡ n * n → length (eliminated n a k) ≡ n * n
@@ -42,18 +43,18 @@ module _ (n : ℕ) (a : List Float) where
     pub matrix : o.matrix ≡ eliminated n a n
     pub pivots : o.pivots ≡ puts p 0 (pivot_of n a) n
 
-  all_steps : (k : ℕ) (p : List ℕ) (b : Bool) → (b ≡ true → k ≡ n) → number_of (cond b Factored (Refused singular)) ≡ 0 → Succeeds p (after n a p k (cond b Factored (Refused singular)))
+  all_steps : (k : ℕ) (p : List ℕ) (b : Bool) → (b ≡ true → k ≡ n) → ◌≡◌ {A = Result ⊤ Refusal} (cond b (Ok tt) (Err Singular)) (Ok tt) → Succeeds p (after n a p k (cond b (Ok tt) (Err Singular)))
   all_steps k p true h e = record { matrix = ap (eliminated n a) (h refl); pivots = ap (puts p 0 (pivot_of n a)) (h refl) }
-  all_steps k p false h e = absurd (omega arith)
+  all_steps k p false h e = cc
 
-  pub raw_succeeds : (p : List ℕ) → number_of (raw_of n a p).answer ≡ 0 → Succeeds p (raw_of n a p)
+  pub raw_succeeds : (p : List ℕ) → (raw_of n a p).answer ≡ Ok tt → Succeeds p (raw_of n a p)
   unfolding raw_of elimination_of
   raw_succeeds p e = go (unusable (scale a) 𝟎) e
     where
       k : ℕ
       k = steps_done n (threshold n (scale a)) a n
 
-      go : (b : Bool) → number_of (cond b (outcome (Refused singular) a p) (elimination_of n (threshold n (scale a)) a p)).answer ≡ 0
-          → Succeeds p (cond b (outcome (Refused singular) a p) (elimination_of n (threshold n (scale a)) a p))
-      go true e = absurd (omega arith)
+      go : (b : Bool) → (cond b (outcome (Err Singular) a p) (elimination_of n (threshold n (scale a)) a p)).answer ≡ Ok tt
+          → Succeeds p (cond b (outcome (Err Singular) a p) (elimination_of n (threshold n (scale a)) a p))
+      go true e = cc
       go false e = all_steps k p (eqb k n) (eqb-true k n) e

@@ -3,7 +3,7 @@ use Prim.Native.Nat.{ℕ, zero, suc, ◌+◌, ◌<◌, ◌≤◌}
 use native.Mathlib.Numerals.{add-one}
 use native.Mathlib.Omega.{arith}
 use mathlib.Core.Path.{◌≡◌, refl, sym, ap, ◌∙◌}
-use mathlib.Core.Bool.{cond, ◌&&◌}
+use mathlib.Core.Bool.{true, false, ◌&&◌}
 use lib.Dec.{ltb}
 use lib.Ieee.{Float, lt}
 use borrow.Author.Tests.{lt-ltb, le-ltb}
@@ -17,20 +17,20 @@ module _ (a : ℕ → ℕ → Float) (k : ℕ) where
   search_start zero h = refl
   search_start (suc r) h = rw (le-ltb k r (omega arith)) (search_start r (omega arith))
 
-  -- one more row
-  pub search_more : (r : ℕ) {p q : ℕ} {best v : Float} → k < r → p ≡ largest_row a k r → best ≡ abs (a p k) → v ≡ abs (a r k)
-      → q ≡ cond (lt best v) r p → q ≡ largest_row a k (r + 1)
+  -- one more row: its entry is larger in magnitude, or it is not
+  pub search_larger : (r : ℕ) {p : ℕ} {best : Float} → k < r → p ≡ largest_row a k r → best ≡ abs (a p k) → lt best (abs (a r k)) ≡ true
+      → r ≡ largest_row a k (r + 1)
   unfolding largest_row
-  search_more r {p} {q} {best} {v} h e f g w =
-      let f' : best ≡ abs (a (largest_row a k r) k) = f ∙ ap (λ (z : ℕ). abs (a z k)) e in
-      rw (add-one, lt-ltb k r h) (cc)
+  search_larger r {p} {best} h e f t =
+      let t' : lt (abs (a (largest_row a k r) k)) (abs (a r k)) ≡ true = ap (λ (z : ℕ). lt (abs (a z k)) (abs (a r k))) (sym e) ∙ ap (λ (z : Float). lt z (abs (a r k))) (sym f) ∙ t in
+      rw (add-one, lt-ltb k r h, t')
 
-  pub best_more : (r p : ℕ) {q : ℕ} {best v w : Float} → best ≡ abs (a p k) → v ≡ abs (a r k)
-      → q ≡ cond (lt best v) r p → w ≡ cond (lt best v) v best → w ≡ abs (a q k)
-  best_more r p {q} {best} {v} {w} f g e h =
-      by (lt best v)
-      (λ t. let z : q ≡ r = e ∙ rw t in h ∙ rw t (g ∙ ap (λ (i : ℕ). abs (a i k)) (sym z)))
-      (λ t. let z : q ≡ p = e ∙ rw t in h ∙ rw t (f ∙ ap (λ (i : ℕ). abs (a i k)) (sym z)))
+  pub search_kept : (r : ℕ) {p : ℕ} {best : Float} → k < r → p ≡ largest_row a k r → best ≡ abs (a p k) → lt best (abs (a r k)) ≡ false
+      → p ≡ largest_row a k (r + 1)
+  unfolding largest_row
+  search_kept r {p} {best} h e f t =
+      let t' : lt (abs (a (largest_row a k r) k)) (abs (a r k)) ≡ false = ap (λ (z : ℕ). lt (abs (a z k)) (abs (a r k))) (sym e) ∙ ap (λ (z : Float). lt z (abs (a r k))) (sym f) ∙ t in
+      rw (add-one, lt-ltb k r h, t') e
 
   pub search_below : (n r : ℕ) → k < n → r ≤ n → largest_row a k r < n
   unfolding largest_row

@@ -20,11 +20,13 @@ use Rattle.float.proofs.Numbers.{finite_product, product_number, zero_le}
 use Rattle.vector.specs.Lists.{el, every}
 use Rattle.vector.specs.Matrices.{entry}
 use Rattle.vector.proofs.Lists.{every_stop}
-use Rattle.stepping.specs.Refusals.{singular, first_of, unless_refused}
-use Rattle.linear.specs.declared.Factorization.TheVariants.{Factored, Refused}
+use Rattle.std.specs.Prelude.{Result, Ok, Err, ⊤}
+use Rattle.stepping.specs.declared.Refusal.{Refusal}
+use Rattle.stepping.specs.declared.Refusal.TheVariants.{Singular}
+use Rattle.stepping.specs.Refusals.{first_of, unless_refused}
 use Rattle.linear.specs.Elimination.{largest, scale, threshold, unusable, eliminated, pivot_of, pivot_magnitude, steps_done}
 use Rattle.linear.specs.Substitution.{lower}
-use Rattle.linear.specs.Calls.{number_of, raw_of, elimination_of, factorize_tests, factorize_of}
+use Rattle.linear.specs.Calls.{outcome, raw_of, elimination_of, factorize_tests, factorize_of}
 use Rattle.linear.proofs.Triangular.{lower_small}
 
 -- ---- the threshold
@@ -89,14 +91,14 @@ module _ (n : ℕ) (t : Float) (a : List Float) where
       (λ q. let w : r ≡ suc g = (rw q at e) in absurd (omega (arith, done_most g)))
 
 -- ---- what the answer tells
-answered : (b : Bool) → cond b Factored (Refused singular) ≡ Factored → b ≡ true
+answered : (b : Bool) → ◌≡◌ {A = Result ⊤ Refusal} (cond b (Ok tt) (Err Singular)) (Ok tt) → b ≡ true
 answered true h = refl
-answered false h = let z : singular ≡ 0 = ap number_of h in absurd (omega arith)
+answered false h = cc
 
-module _ (n : ℕ) (a : List Float) (p : List ℕ) (e : (raw_of n a p).answer ≡ Factored) where
+module _ (n : ℕ) (a : List Float) (p : List ℕ) (e : (raw_of n a p).answer ≡ Ok tt) where
   usable : unusable (scale a) 𝟎 ≡ false
   unfolding raw_of
-  usable = by (unusable (scale a) 𝟎) (λ u. let z : singular ≡ 0 = ap number_of (rw u at e) in absurd (omega arith)) (λ u. u)
+  usable = by (unusable (scale a) 𝟎) (λ u. let z = (rw u at e) in absurd (cc)) (λ u. u)
 
   scale-finite : finite (scale a) ≡ true
   unfolding unusable
@@ -106,15 +108,15 @@ module _ (n : ℕ) (a : List Float) (p : List ℕ) (e : (raw_of n a p).answer �
   unfolding raw_of elimination_of
   all_done = let k = steps_done n (threshold n (scale a)) a n in eqb-true k n (answered (eqb k n) (rw usable at e))
 
-raw_answered : (n : ℕ) (a : List Float) (p : List ℕ) → (factorize_of n a p).answer ≡ Factored → (raw_of n a p).answer ≡ Factored
+raw_answered : (n : ℕ) (a : List Float) (p : List ℕ) → (factorize_of n a p).answer ≡ Ok tt → (raw_of n a p).answer ≡ Ok tt
 unfolding factorize_of unless_refused
-raw_answered n a p e =
-    let k = first_of (factorize_tests n a p) in
-    by (eqb k 0)
-    (λ t. rw t at e)
-    (λ t. let z : k ≡ 0 = ap number_of (rw t at e) in absurd (eqb-false k 0 t z))
+raw_answered n a p e = passed (first_of (factorize_tests n a p)) e
+  where
+    passed : (k : Result ⊤ Refusal) → (unless_refused (λ refusal. outcome (Err refusal) a p) k (raw_of n a p)).answer ≡ Ok tt → (raw_of n a p).answer ≡ Ok tt
+    passed (Ok x) h = h
+    passed (Err refusal) h = cc
 
-module _ (n : ℕ) (a : List Float) (p : List ℕ) (l : n < 32) (e : (factorize_of (suc n) a p).answer ≡ Factored) where
+module _ (n : ℕ) (a : List Float) (p : List ℕ) (l : n < 32) (e : (factorize_of (suc n) a p).answer ≡ Ok tt) where
   abbrev N : ℕ
   N = suc n
 

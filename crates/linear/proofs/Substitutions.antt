@@ -23,12 +23,6 @@ products_same l l' y y' b (suc k) p q =
     let t : y k ≡ y' k = q k (omega arith) in
     cc
 
--- the first product by itself
-products_first : (l y : ℕ → Float) (b : Float) (k : ℕ) → less_products (λ j. l (suc j)) (λ j. y (suc j)) (b ⊖ l 0 ⊗ y 0) k ≡ less_products l y b (suc k)
-unfolding less_products
-products_first l y b zero = refl
-products_first l y b (suc k) = ap (λ (v : Float). v ⊖ l (suc k) ⊗ y (suc k)) (products_first l y b k)
-
 module _ (f x : List Float) (at first : ℕ) (b : Float) where
   -- b less the products from `first` on and before `column`
   abbrev pub Less : ℕ → Float
@@ -45,46 +39,28 @@ module _ (f x : List Float) (at first : ℕ) (b : Float) where
       let w : first + (column - first) ≡ column = omega arith in
       rw (z, w, e)
 
--- the products from `first` on are the one at `first`, and those right of it
-less_first : (f x : List Float) (at first : ℕ) (b : Float) (column : ℕ) → first < column
-    → Less f x at (first + 1) (b ⊖ el f (at + first) ⊗ el x first) column ≡ Less f x at first b column
-less_first f x at first b column h =
-    let k = column - (first + 1) in
-    let l : ℕ → Float = λ j. el f (at + (first + j)) in
-    let y : ℕ → Float = λ j. el x (first + j) in
-    let z : first + 0 ≡ first = omega arith in
-    let c : suc k ≡ column - first = omega arith in
-    products_same (λ j. el f (at + (first + 1 + j))) (λ j. l (suc j)) (λ j. el x (first + 1 + j)) (λ j. y (suc j)) (b ⊖ el f (at + first) ⊗ el x first) k
-    (λ j q. let e : first + 1 + j ≡ first + suc j = omega arith in rw e)
-    (λ j q. let e : first + 1 + j ≡ first + suc j = omega arith in rw e)
-    ∙ ap (λ (i : ℕ). less_products (λ j. l (suc j)) (λ j. y (suc j)) (b ⊖ el f (at + i) ⊗ el x i) k) (sym z)
-    ∙ products_first l y b k
-    ∙ ap (less_products l y b) c
-
 -- ---- forward
 pub forward_none : (l : ℕ → ℕ → Float) (x : List Float) → 0 < length x → take 1 x ≡ forward_substitution l (el x) 1
 unfolding forward_substitution less_products
 forward_none l [] h = absurd (omega arith)
 forward_none l (a ∷ x) h = refl
 
--- v has the products of row i but the last, whose unknown is w
-pub forward_more : (m x x₀ : List Float) (n i : ℕ) {v w : Float} → 0 < i → i < n → length x ≡ n
-    → take i x ≡ forward_substitution (lower n m) (el x₀) i → el x i ≡ el x₀ i → v ≡ Less m x (i * n) 0 (el x i) (i - 1) → w ≡ el x (i - 1)
-    → take (i + 1) (set x i (v ⊖ el m (i * n + (i - 1)) ⊗ w)) ≡ forward_substitution (lower n m) (el x₀) (i + 1)
+-- v has the products of row i
+pub forward_more : (m x x₀ : List Float) (n i : ℕ) {v : Float} → i < n → length x ≡ n
+    → take i x ≡ forward_substitution (lower n m) (el x₀) i → el x i ≡ el x₀ i → v ≡ Less m x (i * n) 0 (el x i) i
+    → take (i + 1) (set x i v) ≡ forward_substitution (lower n m) (el x₀) (i + 1)
 unfolding forward_substitution
-forward_more m x x₀ n i {v} {w} some h lx done here e ew =
+forward_more m x x₀ n i {v} h lx done here e =
     let y = forward_substitution (lower n m) (el x₀) i in
-    let u = v ⊖ el m (i * n + (i - 1)) ⊗ w in
-    let z : i - 1 + 1 - 0 ≡ i = omega arith in
-    let eu : u ≡ less_products (lower n m i) (el y) (el x₀ i) i =
-    ap (λ (s : Float). v ⊖ el m (i * n + (i - 1)) ⊗ s) ew
-    ∙ less_more m x (i * n) 0 (el x i) (i - 1) (omega arith) e
+    let z : i - 0 ≡ i = omega arith in
+    let ev : v ≡ less_products (lower n m i) (el y) (el x₀ i) i =
+    e
     ∙ ap (less_products (λ j. el m (i * n + (0 + j))) (λ j. el x (0 + j)) (el x i)) z
     ∙ products_same (λ j. el m (i * n + (0 + j))) (lower n m i) (λ j. el x (0 + j)) (el y) (el x i) i
     (λ j q. let o : 0 + j ≡ j = omega arith in rw (o, lt-ltb j i q))
     (λ j q. let o : 0 + j ≡ j = omega arith in rw o (sym (get_or-take i x j nan q) ∙ ap (λ (l : List Float). el l j) done))
     ∙ ap (λ (b : Float). less_products (lower n m i) (el y) b i) here in
-    rw add-one (take-suc-set x i u (omega arith) ∙ (cc))
+    rw add-one (take-suc-set x i v (omega arith) ∙ (cc))
 
 -- ---- back
 back_suc : (n : ℕ) (u : ℕ → ℕ → Float) (y : ℕ → Float) (k r : ℕ) → n - suc k ≡ r
@@ -92,21 +68,23 @@ back_suc : (n : ℕ) (u : ℕ → ℕ → Float) (y : ℕ → Float) (k r : ℕ)
 unfolding back_substitution
 back_suc n u y k r e = rw e
 
-back_none : (n : ℕ) (u : ℕ → ℕ → Float) (x : List Float) (y : ℕ → Float) → length x ≡ n → drop n x ≡ back_substitution n u y (n - n)
+-- no row yet
+pub back_none : (n : ℕ) (u : ℕ → ℕ → Float) (x : List Float) (y : ℕ → Float) → length x ≡ n → drop n x ≡ back_substitution n u y (n - n)
 unfolding back_substitution
 back_none n u x y h = let z : n - n ≡ 0 = omega arith in rw z (drop_of_length-le x {i = n} (omega arith))
 
--- row r, v with the products of the unknowns from row i on
-back_row : (m x : List Float) (y : ℕ → Float) (n r i : ℕ) {v : Float} → i ≡ r + 1 → i ≤ n → length x ≡ n
-    → drop i x ≡ back_substitution n (upper n m) y (n - i) → el x r ≡ y r → v ≡ Less m x (r * n) i (el x r) n
+-- one more row: v has the products of row r with the unknowns from row i on
+pub back_more : (m x : List Float) (y : ℕ → Float) (n r i : ℕ) {v : Float} → i ≡ r + 1 → i ≤ n → length x ≡ n
+    → drop i x ≡ back_substitution n (upper n m) y (n - i) → el x r ≡ y r → v ≡ Less m x (r * n) (r + 1) (el x r) n
     → drop r (set x r (v ⊘ el m (r * n + r))) ≡ back_substitution n (upper n m) y (n - r)
-back_row m x y n r i {v} e h lx done here ev =
+back_more m x y n r i {v} e h lx done here ev =
     let q = n - i in
     let old = back_substitution n (upper n m) y q in
     let d = el m (r * n + r) in
     let w = v ⊘ d in
     let vs : v ≡ less_products (λ j. upper n m r (r + 1 + j)) (el old) (y r) q =
     ev
+    ∙ ap (λ (z : ℕ). Less m x (r * n) z (el x r) n) (sym e)
     ∙ products_same (λ j. el m (r * n + (i + j))) (λ j. upper n m r (r + 1 + j)) (λ j. el x (i + j)) (el old) (el x r) q
     (λ j z. rw (e, le-ltb (r + 1 + j) r (omega arith)))
     (λ j z. sym (get_or-drop i x j nan) ∙ ap (λ (l : List Float). el l j) done)
@@ -123,19 +101,3 @@ back_row m x y n r i {v} e h lx done here ev =
     ∙ ap (λ (z : Float). (less_products (λ j. upper n m r (r + 1 + j)) (el old) (y r) q ⊘ z) ∷ old) diagonal
     ∙ sym (back_suc n (upper n m) y q r (omega arith))
     ∙ ap (back_substitution n (upper n m) y) count
-
--- the last row
-pub back_last : (m x : List Float) (n r : ℕ) → n ≡ r + 1 → length x ≡ n
-    → drop r (set x r (el x r ⊘ el m (r * n + r))) ≡ back_substitution n (upper n m) (el x) (n - r)
-back_last m x n r e lx =
-    back_row m x (el x) n r n e (omega arith) lx (back_none n (upper n m) x (el x) lx) refl (less_none m x (r * n) n (el x r))
-
--- a row above: v has its products, the first of them with the unknown w
-pub back_more : (m x : List Float) (y : ℕ → Float) (n r i : ℕ) {v w : Float} → i ≡ r + 1 → i < n → length x ≡ n
-    → drop i x ≡ back_substitution n (upper n m) y (n - i) → el x r ≡ y r → w ≡ el x i → v ≡ Less m x (r * n) (i + 1) (el x r ⊖ el m (r * n + i) ⊗ w) n
-    → drop r (set x r (v ⊘ el m (r * n + r))) ≡ back_substitution n (upper n m) y (n - r)
-back_more m x y n r i {v} {w} e h lx done here ew ev =
-    back_row m x y n r i e (omega arith) lx done here
-    (ev
-    ∙ ap (λ (s : Float). Less m x (r * n) (i + 1) (el x r ⊖ el m (r * n + i) ⊗ s) n) ew
-    ∙ less_first m x (r * n) i (el x r) n h)

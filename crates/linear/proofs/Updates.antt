@@ -1,7 +1,7 @@
 -- A step of the elimination: one row from its columns, all rows, the whole matrix. Assumes nothing.
 use Prim.Native.Nat.{ℕ, ◌+◌, ◌*◌, ◌<◌, ◌≤◌}
 use native.Mathlib.Omega.{arith}
-use mathlib.Core.Path.{◌≡◌, refl, sym, ap, ◌∙◌}
+use mathlib.Core.Path.{◌≡◌, refl, sym, ap, ◌∙◌, subst}
 use mathlib.Core.Bool.{Bool, cond, ◌&&◌}
 use mathlib.Core.List.{List}
 use lib.Dec.{ltb, eqb}
@@ -27,10 +27,6 @@ module _ (n : ℕ) (m₀ : List Float) (i k : ℕ) (g : ℕ → Float) where
   abbrev pub Written : ℕ → List Float → Type 0
   Written j m = (r c : ℕ) → r < n → c < n → entry n m r c ≡ cond (ltb k c && (ltb c j && eqb r i)) (g c) (entry n m₀ r c)
 
-  pub written_none : Written (k + 1) m₀
-  written_none r c hr hc =
-      by (ltb k c) (λ t. rw (t, le-ltb c (k + 1) (omega (arith, ltb-true k c t)))) (λ t. rw t)
-
   pub written_more : (m : List Float) (j : ℕ) {v : Float} → length m ≡ n * n → i < n → k < j → j < n → v ≡ g j
       → Written j m → Written (j + 1) (set m (i * n + j) v)
   written_more m j {v} lm hi hk hj e inv r c hr hc =
@@ -44,10 +40,6 @@ module _ (n : ℕ) (m₀ : List Float) (i k : ℕ) (g : ℕ → Float) where
       old
       ∙ inv r c hr hc
       ∙ ap (λ (b : Bool). cond (ltb k c && (b && eqb r i)) (g c) (entry n m₀ r c)) (sym (ltb_more c j (eqb-false c j t))))
-
-  pub written_all : (m : List Float) (j : ℕ) → n ≤ j → Written j m
-      → (r c : ℕ) → r < n → c < n → entry n m r c ≡ cond (ltb k c && eqb r i) (g c) (entry n m₀ r c)
-  written_all m j h inv r c hr hc = inv r c hr hc ∙ rw (lt-ltb c j (omega arith))
 
 -- what is read for column j of row i: that entry and the one of row k are not written yet
 pub read_at : (n : ℕ) (m m₀ : List Float) (i k j : ℕ) (g : ℕ → Float) (f : Float) → k < i → i < n → j < n → Written n m₀ i k g j m
@@ -94,9 +86,6 @@ abbrev pub Cleared : ℕ → List Float → ℕ → ℕ → List Float → Type 
 Cleared n m₀ k i m = (r c : ℕ) → r < n → c < n → entry n m r c ≡ cond (ltb k r && ltb r i) (elimination_step k (entry n m₀) r c) (entry n m₀ r c)
 
 module _ (n : ℕ) (m₀ : List Float) (k : ℕ) (hk : k < n) where
-  pub cleared_none : Cleared n m₀ k (k + 1) m₀
-  cleared_none r c hr hc = by (ltb k r) (λ t. rw (t, le-ltb r (k + 1) (omega (arith, ltb-true k r t)))) (λ t. rw t)
-
   -- row k is kept
   pub cleared_pivot : (i : ℕ) (m : List Float) (c : ℕ) → c < n → Cleared n m₀ k i m → entry n m k c ≡ entry n m₀ k c
   cleared_pivot i m c hc inv = inv k c hk hc ∙ rw (le-ltb k k (omega arith))
@@ -118,11 +107,6 @@ module _ (n : ℕ) (m₀ : List Float) (k : ℕ) (hk : k < n) where
       ∙ inv r c hr hc
       ∙ ap (λ (b : Bool). cond (ltb k r && b) (elimination_step k (entry n m₀) r c) (entry n m₀ r c)) (sym (ltb_more r i (eqb-false r i t))))
 
-  pub cleared_all : (i : ℕ) (m : List Float) → n ≤ i → Cleared n m₀ k i m
-      → (r c : ℕ) → r < n → c < n → entry n m r c ≡ elimination_step k (entry n m₀) r c
-  cleared_all i m h inv r c hr hc =
-      inv r c hr hc ∙ by (ltb k r) (λ t. rw (t, lt-ltb r i (omega arith))) (λ t. rw t)
-
 -- ---- the matrix: rows k and p are interchanged, and column k is eliminated
 pub step_is : (n k p : ℕ) (m₀ m₁ m₂ : List Float) → k < n → length m₂ ≡ n * n
     → ((i j : ℕ) → i < n → j < n → entry n m₁ i j ≡ entry n m₀ (interchange k p i) j)
@@ -137,3 +121,8 @@ step_is n k p m₀ m₁ m₂ hk l e₁ e₂ =
     e₂ i j hi hj
     ∙ step_same (entry n m₁) a k i j (e₁ k k hk hk) (e₁ k j hk hj) (e₁ i k hi hk) (e₁ i j hi hj)
     ∙ sym (rows_at f n n i j hi hj))
+
+-- the number of rows, by another name
+pub carried : {k n : ℕ} (m m' : List Float) (f : (ℕ → ℕ → Float) → ℕ → ℕ → Float) → k ≡ n
+    → ((i j : ℕ) → i < k → j < k → entry k m' i j ≡ f (entry k m) i j) → (i j : ℕ) → i < n → j < n → entry n m' i j ≡ f (entry n m) i j
+carried m m' f e = subst (λ (z : ℕ). (i j : ℕ) → i < z → j < z → entry z m' i j ≡ f (entry z m) i j) e

@@ -38,6 +38,10 @@ largest_row a k (suc r) = let p = largest_row a k r in cond (ltb k r && lt (abs 
 abbrev pub pivot_row : ℕ → List Float → ℕ → ℕ
 pivot_row n m k = largest_row (entry n m) k n
 
+-- whether step k finds no pivot above t
+abbrev pub stops : ℕ → Float → List Float → ℕ → Bool
+stops n t m k = unusable (abs (entry n m (pivot_row n m k) k)) t
+
 -- where row i comes from as rows k and p are interchanged
 abbrev pub interchange : ℕ → ℕ → ℕ → ℕ
 interchange k p i = cond (eqb i p) k (cond (eqb i k) p i)

@@ -1,3 +1,4 @@
 pub mod Elimination
 pub mod Substitution
 pub mod Calls
+pub mod Lent

@@ -3,11 +3,12 @@ use mathlib.Core.Path.{◌≡◌, refl, sym, ap, ◌∙◌, subst}
 use Prim.Native.Nat.{ℕ}
 use mathlib.Core.Bool.{true, false}
 use mathlib.Core.List.{List, [], ◌∷◌}
-use lib.ListN.{length, take, replicate, length-replicate}
+use lib.ListN.{length, take, length-replicate}
 use lib.Dec.{eqb}
 use lib.Ieee.{Float}
-use Rattle.float.specs.Operators.{𝟎}
 use Rattle.vector.proofs.Fronts.{length_front}
+use Rattle.std.specs.Prelude.{Ok}
+use Rattle.stepping.specs.declared.Refusal.TheVariants.{Dimension, NonFinite, UnsupportedTableau, TableauFile}
 use Rattle.stepping.specs.Refusals.{first_of}
 use Rattle.stepping.proofs.Refusals.{none, later, holds_later, either_way, is_answered}
 use Rattle.time_difference.specs.declared.TimeDifferencePolicy.{TimeDifferencePolicy}
@@ -34,11 +35,11 @@ module _ (file : List ℕ) (policy : TimeDifferencePolicy) (time : Float) (m : L
   made_is =
       either_way not_made (λ (r : Made). r ≡ made y → made_of file policy time m ≡ y) _ (made (made_of file policy time m)) (λ j h. cc) (λ _ h. cc) e
 
-  pub made_passed : first_of (making_tests file time (trimmed (needed (fixed_by file policy m)) m)) ≡ 0
+  pub made_passed : first_of (making_tests file time (trimmed (needed (fixed_by file policy m)) m)) ≡ Ok tt
   unfolding make
   made_passed =
       let k = first_of (making_tests file time (trimmed (needed (fixed_by file policy m)) m)) in
-      either_way not_made (λ (r : Made). r ≡ made y → k ≡ 0) k (made (made_of file policy time m)) (λ j h. cc) (λ z _. z) e
+      either_way not_made (λ (r : Made). r ≡ made y → k ≡ Ok tt) k (made (made_of file policy time m)) (λ j h. cc) (λ z _. z) e
 
 length-cleared : (state : List Float) (m : Lent) → length (cleared state m).work ≡ length m.work
 unfolding cleared
@@ -126,7 +127,7 @@ module _ (y : System) (time : Float) (state : List Float) (e : (stepped (reset t
 
     cleared_same : cleared state (trimmed (needed y.stepper.fixed) y.lent) ≡ cleared state (trimmed (needed fixed) lent)
     unfolding cleared trimmed
-    cleared_same = λ i. record { state = state; work = replicate (front_same i) 𝟎; pivots = replicate (sym lp i) 0 }
+    cleared_same = cc (front_same, lp)
 
     same : Same (stepped (reset time state) y).system (made_of file policy time lent)
     unfolding stepped made_of restarted
@@ -147,12 +148,12 @@ module _ (y : System) (time : Float) (state : List Float) (e : (stepped (reset t
         in
         cc (old, t.size, t.shape.of_state, front_same, lp, b.stages)
 
-    new_passes : first_of (making_tests file time (trimmed (needed fixed) lent)) ≡ 0
+    new_passes : first_of (making_tests file time (trimmed (needed fixed) lent)) ≡ Ok tt
     unfolding trimmed
     new_passes =
         let t = tests_passed in
-        holds_later 12 _ b.file_accepted
-        (holds_later 1 _ new_shape (holds_later 2 _ t.finite (holds_later 2 _ t.finite_time (later 3 [] b.not_hybrid none))))
+        holds_later TableauFile _ b.file_accepted
+        (holds_later Dimension _ new_shape (holds_later NonFinite _ t.finite (holds_later NonFinite _ t.finite_time (later UnsupportedTableau [] b.not_hybrid none))))
 
     new_made : make file policy time lent ≡ made (made_of file policy time lent)
     unfolding make

@@ -6,9 +6,9 @@ use mathlib.Core.Bool.{Bool}
 use mathlib.Core.List.{List, [], ◌∷◌}
 use lib.ListN.{length}
 use lib.Ieee.{Float}
+use Rattle.std.specs.Prelude.{Result, Ok, Err}
+use Rattle.stepping.specs.declared.Refusal.{Refusal}
 use Rattle.stepping.specs.Refusals.{Test, first_of}
-use Rattle.stepping.specs.declared.Endpoint.{Endpoint}
-use Rattle.stepping.specs.declared.Endpoint.TheVariants.{Step, Refused}
 use Rattle.time_difference.specs.declared.TimeDifferencePolicy.{TimeDifferencePolicy}
 use Rattle.attempts.specs.Attempt.{Stopped}
 use Rattle.attempts.proofs.Requests.{InRange, start_fits, resume_fits}
@@ -30,22 +30,13 @@ use Rattle.lists.proofs.Fresh.{made_is, made_passed, made_memory}
 
 -- the memory that a call leaves
 shape_after : (fx : Fixed) (m : Lent) (o : Out) → LentShape fx m → OutLong m o → length o.lent.state ≡ fx.n → LentShape fx o.lent
-shape_after fx m o h l e =
-    record {
-      n_from_1 = h.n_from_1;
-      n_to_32 = h.n_to_32;
-      s_from_1 = h.s_from_1;
-      s_to_8 = h.s_to_8;
-      of_state = e;
-      of_work = l.of_work ∙ h.of_work;
-      of_pivots = l.of_pivots ∙ h.of_pivots;
-    }
+shape_after fx m o h l e = rw (e ∙ sym h.of_state, l.of_work, l.of_pivots) h
 
 module _ (fx : Fixed) where
   abbrev pub FitsAfter : Out → Type 0
   FitsAfter o = Fits fx o.progress o.lent
 
-  guarded_fits : (tests : List Test) (x : Progress) (m : Lent) (o : Out) → Fits fx x m → (first_of tests ≡ 0 → FitsAfter o) → FitsAfter (guarded tests x m o)
+  guarded_fits : (tests : List Test) (x : Progress) (m : Lent) (o : Out) → Fits fx x m → (first_of tests ≡ Ok tt → FitsAfter o) → FitsAfter (guarded tests x m o)
   unfolding refusal
   guarded_fits tests x m o h g = guarded_either tests x m o FitsAfter (λ k. h) g
 
@@ -61,10 +52,10 @@ module _ (fx : Fixed) where
       (λ _. settle_fits (opening step jacobian partial x) m _ h.shape (opened_keeps fx (opening step jacobian partial x) m file)
       (start_fits _ h.shape.s_from_1 _))
 
-  towards_fits : (e : Endpoint) (file : List ℕ) (jacobian partial : Bool) (x : Progress) (m : Lent) → Fits fx x m → FitsAfter (towards e fx file jacobian partial x m)
+  towards_fits : (e : Result Float Refusal) (file : List ℕ) (jacobian partial : Bool) (x : Progress) (m : Lent) → Fits fx x m → FitsAfter (towards e fx file jacobian partial x m)
   unfolding towards refusal
-  towards_fits (Step step) file jacobian partial x m h = attempt_by_fits file step jacobian partial x m h
-  towards_fits (Refused k) file jacobian partial x m h = h
+  towards_fits (Ok step) file jacobian partial x m h = attempt_by_fits file step jacobian partial x m h
+  towards_fits (Err k) file jacobian partial x m h = h
 
   failed_fits : (x : Progress) (m : Lent) → Fits fx x m → FitsAfter (failed x m)
   unfolding failed progress_after

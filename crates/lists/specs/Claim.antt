@@ -1,5 +1,5 @@
--- What is claimed of every list of calls (the scope paper, Lists of calls). Definitions only.
-use Rattle.std.specs.Prelude.{◌≡◌, ℕ, List, ◌∷◌, ◌++◌, map, length, drop, Float}
+-- What is claimed of every list of calls. Definitions only.
+use Rattle.std.specs.Prelude.{◌≡◌, ℕ, List, ◌∷◌, ◌++◌, map, length, drop, Float, Ok}
 use Rattle.stepping.specs.Refusals.{first_of}
 use Rattle.time_difference.specs.declared.TimeDifferencePolicy.{TimeDifferencePolicy}
 use Rattle.refusals.specs.Answers.{Lent, lending, done}
@@ -47,7 +47,7 @@ Demand3 = (file : List ℕ) (policy : TimeDifferencePolicy) (time : Float) (lent
 -- in a list the first tests never refuse: record and memory fit after every call
 abbrev pub AlwaysFits : Type 0
 AlwaysFits = (file : List ℕ) (policy : TimeDifferencePolicy) (time : Float) (lent : Lent) (y : System) → make file policy time lent ≡ made y → (calls : List Call)
-    → let z = after y calls in first_of (fit_tests z.stepper.fixed z.stepper.progress (trimmed (needed z.stepper.fixed) z.lent)) ≡ 0
+    → let z = after y calls in first_of (fit_tests z.stepper.fixed z.stepper.progress (trimmed (needed z.stepper.fixed) z.lent)) ≡ Ok tt
 
 -- whatever record and memory are: a call leaves the work beyond the needed length as it was, and every length
 pub record Untouched (y z : System) : Type 0 where

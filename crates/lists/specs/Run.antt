@@ -15,7 +15,7 @@ pub record Accepted : Type 0 where
 unfoldable pub accepted_in : System → Accepted
 accepted_in y = record { time = y.stepper.progress.time; state = y.lent.state }
 
--- Seen after a call: the request with its kind, time and state, or the view with all its entries, or the refusal's number, or a reader's reply; then
+-- Seen after a call: the request with its kind, time and state, or the view with all its entries, or the refusal, or a reader's reply; then
 -- the accepted time and state.
 pub record Seen : Type 0 where
   pub answer : Answer

@@ -12,8 +12,9 @@ use Rattle.float.specs.Operators.{◌⊕◌, ◌⊖◌, 𝟎}
 use Rattle.float.proofs.Cases.{by}
 use Rattle.vector.specs.Parts.{part}
 use Rattle.vector.proofs.Lists.{table-replicate}
-use Rattle.stepping.specs.Refusals.{first_of}
-use Rattle.stepping.proofs.Refusals.{passed, is_answered}
+use Rattle.std.specs.Prelude.{Option, Some, None, Ok, unwrap_or}
+use Rattle.stepping.specs.Refusals.{Test, ◌when◌, first_of}
+use Rattle.stepping.proofs.Refusals.{is_answered}
 use Rattle.tableau.specs.Tableau.{present}
 use Rattle.tableau.specs.File.{tableau_of}
 use Rattle.stages.specs.Layout.{current_at, time_partial_at, jacobian_at, stages_at, rhs_stages_at, needed_work}
@@ -24,50 +25,42 @@ use Rattle.refusals.specs.declared.Progress.{Progress}
 use Rattle.refusals.specs.Requests.{request_after, stage_after}
 use Rattle.refusals.specs.Answers.{Lent, Request, derivative, asked, shown, candidate_of, error_shown, shown_part, stages_shown, rhs_stages_shown, jacobian_shown, time_partial_shown, view_of}
 use Rattle.refusals.specs.Answers as answers
-use Rattle.refusals.specs.Tests.{attempt_tests, step_tests, decision_tests}
+use Rattle.refusals.specs.Tests.{file_tests, attempt_tests, step_tests, decision_tests}
 use Rattle.rosenbrock.specs.Calls.{Out, refusal, guarded, given_by, scratch_by, progress_after, settle, opened, attempt_by, attempt_of, rejected, reject_of}
 use Rattle.phases.specs.Phases.{opening}
 use Rattle.refusals.proofs.Fitting.{LentShape, fits_passed}
+use Rattle.std.specs.Bool.{then_some}
 use Rattle.method.specs.Step as method
-use Rattle.method.specs.Step.{Problem, Attempted, Evaluated, Differentiation, Cache, cached, nothing, Caches, or_else, evaluated, derivative_at, differentiation_at, partial_at}
-use Rattle.method.specs.Schedule.{unless_cached, derivative_items, jacobian_items, partial_items, schedule, asks_for}
-use Rattle.method.specs.Conversation.{Conversation, shown_error, rest_view, requests_of, answer_of, Sized, if_valid, caches_in, attempted_by, AttemptIsStep}
-use Rattle.method.proofs.Conforms.{step_of, Ready, Conforms, not_chosen}
+use Rattle.method.specs.Step.{Problem, Attempted, Evaluated, Differentiation, Caches, evaluated, derivative_at, differentiation_at, partial_at}
+use Rattle.method.specs.Schedule.{unless_cached, derivative_items, jacobian_items, partial_items, schedule, asks_for, ends_in}
+use Rattle.method.specs.Conversation.{Conversation, last_answer, shown_error, rest_view, requests_of, answer_of, Sized, caches_in, attempted_by, AttemptIsStep}
+use Rattle.method.proofs.Conforms.{step_of, Ready, Open, not_chosen}
 use Rattle.method.proofs.Partial.{matrix_on}
 use Rattle.method.proofs.Start.{evaluates, begun_candidate, begun_error, begun_left, begun_sums}
 
 -- ---- what the tests of an attempt establish
 
-module _ (fx : Fixed) (file : List ℕ) (x : Progress) (m : Lent) (h : first_of (attempt_tests fx file x m) ≡ 0) where
+front_passed : (xs ys : List Test) → first_of (xs ++ ys) ≡ Ok tt → first_of xs ≡ Ok tt
+unfolding first_of
+front_passed [] ys h = refl
+front_passed ((refusal when true) ∷ xs) ys h = cc
+front_passed ((refusal when false) ∷ xs) ys h = front_passed xs ys h
+
+module _ (fx : Fixed) (file : List ℕ) (x : Progress) (m : Lent) (h : first_of (attempt_tests fx file x m) ≡ Ok tt) where
   shape : LentShape fx m
   shape = (fits_passed fx x m _ h).0.shape
 
   ready : (problem : Problem) → Sized fx.n problem → Ready fx file problem m
   ready problem sized =
-      let from-file = (fits_passed fx x m _ h).1 in
-      let supported = passed 11 _ _ from-file in
-      let staged = passed 2 _ _ supported.1 in
-      record {
-        some = shape.n_from_1;
-        small = shape.n_to_32;
-        staged = shape.s_from_1;
-        few = shape.s_to_8;
-        state = shape.of_state;
-        file_accepted = supported.0;
-        file_supported = staged.0;
-        file_stages = (passed 0 _ _ staged.1).0;
-        sized = sized;
-      }
+      record { shape = shape; file_passed = front_passed (file_tests fx.s file) _ (fits_passed fx x m _ h).1; sized = sized }
 
 -- ---- what is cached
 
-kept_or_new : {A : Type 0} (b : Bool) (u v : A) → b ≡ true → u ≡ or_else (if_valid b u) v
-unfolding or_else if_valid
+kept_or_new : {A : Type 0} (b : Bool) (u v : A) → b ≡ true → u ≡ unwrap_or (then_some b u) v
 kept_or_new true u v h = refl
 kept_or_new false u v h = absurd (true≢false (sym h))
 
-made_anew : {A : Type 0} (b : Bool) (u v : A) → b ≡ false → v ≡ or_else (if_valid b u) v
-unfolding or_else if_valid
+made_anew : {A : Type 0} (b : Bool) (u v : A) → b ≡ false → v ≡ unwrap_or (then_some b u) v
 made_anew true u v h = absurd (true≢false h)
 made_anew false u v h = refl
 
@@ -92,18 +85,7 @@ module _ (fx : Fixed) (file : List ℕ) (problem : Problem) (x : Progress) (m : 
         let v = begun_candidate fx file x m state long in
         let r = ap (λ (l : List Float). cond (eqb counts.estimator 0 && present counts) (some l) none)
         (begun_error fx file x m state long ∙ table-replicate 𝟎 fx.n) in
-        λ i. shown
-        (record {
-          previous = m.state;
-          start = x.time;
-          end = x.end;
-          candidate = v i;
-          error = r i;
-          stages = empty (stages_at fx.n) (fx.s * fx.n) i;
-          rhs_stages = empty (rhs_stages_at fx.n fx.s) (fx.s * fx.n) i;
-          jacobian = empty (jacobian_at fx.n) (fx.n * fx.n) i;
-          time_partial = empty (time_partial_at fx.n) fx.n i;
-        })
+        cc (v, r, empty (stages_at fx.n) (fx.s * fx.n), empty (rhs_stages_at fx.n fx.s) (fx.s * fx.n), empty (jacobian_at fx.n) (fx.n * fx.n), empty (time_partial_at fx.n) fx.n)
 
     rests : (opened fx file x m).answer ≡ shown (rest_view p x.end)
     unfolding opened start choose given_by
@@ -114,18 +96,19 @@ module _ (fx : Fixed) (file : List ℕ) (problem : Problem) (x : Progress) (m : 
 
   -- at any other it goes through the step's schedule
   goes_through : Ready fx file problem m → length m.pivots ≡ fx.n → eq x.step 𝟎 ≡ false
-      → Conforms fx file problem x m (evaluated p c) (schedule p c) (start (given_by fx file x m) (scratch_by one_attempt x m))
-  unfolding start on_work schedule caches_in evaluated derivative_at differentiation_at given_by scratch_by needed_work
+      → Conversation fx file problem (asks_for (schedule p c)) (opened fx file x m) (last_answer p x.end (ends_in (schedule p c)) (evaluated p c))
+  unfolding opened start on_work schedule caches_in evaluated derivative_at differentiation_at given_by scratch_by needed_work
   goes_through ready rows moves =
       let n = fx.n in
       let b = x.memo.derivative_valid in
       let k = x.memo.differentiation_valid in
-      let state = ready.state in
+      let state = ready.shape.of_state in
       let f₀ = derivative_at p c in
       let old : Differentiation = record { J = part (jacobian_at n) (n * n) m.work; fₜ = part (time_partial_at n) n m.work } in
       let new : Differentiation = record { J = method.jacobian_at p f₀; fₜ = partial_at p f₀ } in
-      not_chosen _ _ _ moves
-      (evaluates fx file problem x m (evaluated p c) ready moves b k _ old _ refl refl (begun_sums fx file x m state long problem (evaluated p c))
+      let o : Open = record { fx = fx; file = file; problem = problem; x = x; m = m; e = evaluated p c; ready = ready; moves = moves } in
+      (not_chosen {o = o} _ moves
+      (evaluates o b k _ old _ refl refl (begun_sums fx file x m state long problem (evaluated p c))
       (λ t. begun_left fx file x m state long (current_at n) n (omega arith) (omega arith) ∙ kept_or_new b _ _ t)
       (λ t. made_anew b _ _ t)
       (record {
@@ -136,11 +119,11 @@ module _ (fx : Fixed) (file : List ℕ) (problem : Problem) (x : Progress) (m : 
             );
         if_not = λ t. (ap (λ (d : Differentiation). d.J) (made_anew k old new t), ap (λ (d : Differentiation). d.fₜ) (made_anew k old new t));
       })
-      rows)
+      rows)).conversation
 
 -- ---- the claim
 module _ (fx : Fixed) (file : List ℕ) (step : Float) (host-J host-fₜ : Bool) (x : Progress) (m : Lent) where
-  opens : first_of (attempt_tests fx file x m) ≡ 0 → first_of (step_tests step x) ≡ 0
+  opens : first_of (attempt_tests fx file x m) ≡ Ok tt → first_of (step_tests step x) ≡ Ok tt
       → opened fx file (opening step host-J host-fₜ x) m ≡ attempt_of fx file step host-J host-fₜ x m
   unfolding attempt_of attempt_by guarded
   opens h k = is_answered (refusal x m) h (is_answered (refusal x m) k refl)
@@ -155,7 +138,7 @@ attempt_is_step fx file problem step host-J host-fₜ x m passes steps sized =
     (opens fx file step host-J host-fₜ x m passes steps)
     (by (eq y.step 𝟎)
     (λ still. rw still (rests fx file problem y m s.of_work s.of_state still))
-    (λ moves. rw moves (goes_through fx file problem y m s.of_work (ready fx file x m passes problem sized) s.of_pivots moves).conversation))
+    (λ moves. rw moves (goes_through fx file problem y m s.of_work (ready fx file x m passes problem sized) s.of_pivots moves)))
 
 -- ---- what it means for the requests
 
@@ -168,28 +151,28 @@ module _ (p : Attempted) (end : Float) (c : Caches) (moves : eq p.h 𝟎 ≡ fal
   moving = ap (λ (b : Bool). cond b [] (asks_for (schedule p c))) moves
 
   -- without a cached derivative they begin with the derivative at the accepted time and state
-  pub begin_with_derivative : c.derivative ≡ nothing → (rs : List Request) × (requests_of p end c ≡ record { kind = derivative; time = p.t; state = p.y } ∷ rs)
+  pub begin_with_derivative : c.derivative ≡ None → (rs : List Request) × (requests_of p end c ≡ record { kind = derivative; time = p.t; state = p.y } ∷ rs)
   unfolding schedule unless_cached derivative_items asks_for
   begin_with_derivative q =
-      (_, moving ∙ ap (λ (d : Cache (List Float)). asks_for (unless_cached d (derivative_items p e) ++ (unless_cached c.differentiation (jacobian_items p e ++ partial_items p e) ++ matrix_on p e))) q)
+      (_, moving ∙ ap (λ (d : Option (List Float)). asks_for (unless_cached d (derivative_items p e) ++ (unless_cached c.differentiation (jacobian_items p e ++ partial_items p e) ++ matrix_on p e))) q)
 
   -- where all is cached they are those of the stages
-  pub only_stages : (f₀ : List Float) (d : Differentiation) → c.derivative ≡ cached f₀ → c.differentiation ≡ cached d → requests_of p end c ≡ asks_for (matrix_on p e)
+  pub only_stages : (f₀ : List Float) (d : Differentiation) → c.derivative ≡ Some f₀ → c.differentiation ≡ Some d → requests_of p end c ≡ asks_for (matrix_on p e)
   unfolding schedule unless_cached
   only_stages f₀ d q r =
       moving
-      ∙ ap (λ (k : Cache (List Float)). asks_for (unless_cached k (derivative_items p e) ++ (unless_cached c.differentiation (jacobian_items p e ++ partial_items p e) ++ matrix_on p e))) q
-      ∙ ap (λ (k : Cache Differentiation). asks_for (unless_cached k (jacobian_items p e ++ partial_items p e) ++ matrix_on p e)) r
+      ∙ ap (λ (k : Option (List Float)). asks_for (unless_cached k (derivative_items p e) ++ (unless_cached c.differentiation (jacobian_items p e ++ partial_items p e) ++ matrix_on p e))) q
+      ∙ ap (λ (k : Option Differentiation). asks_for (unless_cached k (jacobian_items p e ++ partial_items p e) ++ matrix_on p e)) r
 
 -- an attempt without a cached derivative asks for it first
 pub first_request : (fx : Fixed) (file : List ℕ) (problem : Problem) (step : Float) (host-J host-fₜ : Bool) (x : Progress) (m : Lent)
-    → first_of (attempt_tests fx file x m) ≡ 0 → first_of (step_tests step x) ≡ 0 → Sized fx.n problem → eq ((x.time ⊕ step) ⊖ x.time) 𝟎 ≡ false
+    → first_of (attempt_tests fx file x m) ≡ Ok tt → first_of (step_tests step x) ≡ Ok tt → Sized fx.n problem → eq ((x.time ⊕ step) ⊖ x.time) 𝟎 ≡ false
     → x.memo.derivative_valid ≡ false → (attempt_of fx file step host-J host-fₜ x m).answer ≡ asked (record { kind = derivative; time = x.time; state = m.state })
-unfolding Conversation attempted_by caches_in if_valid
+unfolding Conversation attempted_by caches_in
 first_request fx file problem step host-J host-fₜ x m passes steps sized moves invalid =
     let p = attempted_by fx file problem step host-J host-fₜ x m in
     let c = caches_in fx x m in
-    let b = begin_with_derivative p (x.time ⊕ step) c moves (ap (λ (v : Bool). if_valid v (part (current_at fx.n) fx.n m.work)) invalid) in
+    let b = begin_with_derivative p (x.time ⊕ step) c moves (ap (λ (v : Bool). then_some v (part (current_at fx.n) fx.n m.work)) invalid) in
     let conversation : Conversation fx file problem (record { kind = derivative; time = x.time; state = m.state } ∷ b.0) (attempt_of fx file step host-J host-fₜ x m) _ =
     subst (λ (rs : List Request). Conversation fx file problem rs (attempt_of fx file step host-J host-fₜ x m) (answer_of p (x.time ⊕ step) c)) b.1
     (attempt_is_step fx file problem step host-J host-fₜ x m passes steps sized) in
@@ -197,12 +180,12 @@ first_request fx file problem step host-J host-fₜ x m passes steps sized moves
 
 -- a reject leaves what is cached: where all of it is, a further attempt asks for the derivatives at stages only
 pub after_reject : (fx : Fixed) (file : List ℕ) (problem : Problem) (step : Float) (host-J host-fₜ : Bool) (x : Progress) (m : Lent)
-    → first_of (decision_tests fx x m) ≡ 0 → eq ((x.time ⊕ step) ⊖ x.time) 𝟎 ≡ false → x.memo.derivative_valid ≡ true → x.memo.differentiation_valid ≡ true
+    → first_of (decision_tests fx x m) ≡ Ok tt → eq ((x.time ⊕ step) ⊖ x.time) 𝟎 ≡ false → x.memo.derivative_valid ≡ true → x.memo.differentiation_valid ≡ true
     → let o = reject_of fx x m in
     let p = attempted_by fx file problem step host-J host-fₜ o.progress o.lent in
     let c = caches_in fx o.progress o.lent in
     requests_of p (x.time ⊕ step) c ≡ asks_for (matrix_on p (evaluated p c))
-unfolding reject_of rejected progress_after guarded attempted_by caches_in if_valid
+unfolding reject_of rejected progress_after guarded attempted_by caches_in
 after_reject fx file problem step host-J host-fₜ x m passes moves valid valid₂ =
     let n = fx.n in
     let w = m.work in
@@ -214,4 +197,4 @@ after_reject fx file problem step host-J host-fₜ x m passes moves valid valid�
     requests_of p (x.time ⊕ step) c ≡ asks_for (matrix_on p (evaluated p c)))
     (is_answered (refusal x m) passes refl)
     (only_stages (attempted_by fx file problem step host-J host-fₜ x m) (x.time ⊕ step) (caches_in fx x m) moves (part (current_at n) n w) old
-    (ap (λ (v : Bool). if_valid v (part (current_at n) n w)) valid) (ap (λ (v : Bool). if_valid v old) valid₂))
+    (ap (λ (v : Bool). then_some v (part (current_at n) n w)) valid) (ap (λ (v : Bool). then_some v old) valid₂))

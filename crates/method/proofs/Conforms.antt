@@ -1,31 +1,33 @@
 -- A stop of an open attempt against a list of evaluations and tests: one law for each way in which the attempt goes on. Assumes nothing.
-use Prim.Native.Nat.{ℕ, ◌<◌, ◌≤◌}
+use Prim.Native.Nat.{ℕ}
 use mathlib.Core.Path.{◌≡◌, refl, sym, ap, ◌∙◌, subst}
 use mathlib.Core.Bool.{Bool, true, false, not, cond}
 use mathlib.Core.List.{List, ◌∷◌, ◌++◌}
-use lib.Dec.{eqb, ltb}
-use lib.ListN.{length, get_or}
-use lib.Ieee.{Float}
-use borrow.Author.Tests.{lt-ltb, eq-eqb}
-use Rattle.vector.specs.Lists.{every}
+use lib.Dec.{eqb}
+use lib.ListN.{length}
+use lib.Ieee.{Float, eq}
+use Rattle.float.specs.Operators.{𝟎}
+use borrow.Author.Tests.{eq-eqb}
+use Rattle.std.specs.Prelude.{Ok}
+use Rattle.stepping.specs.declared.Refusal.{Refusal}
 use Rattle.stepping.specs.Refusals.{◌when◌, first_of}
-use Rattle.stepping.proofs.Refusals.{later, none, is_answered}
-use Rattle.tableau.specs.Tableau.{stages_of}
-use Rattle.tableau.specs.File.{tableau_of, accepts}
+use Rattle.stepping.proofs.Refusals.{later, none, holds_later, all_passed, is_answered}
+use Rattle.tableau.specs.File.{tableau_of}
 use Rattle.stages.specs.Layout.{needed_work}
 use Rattle.attempts.specs.declared.Ask.{Ask}
 use Rattle.attempts.specs.declared.Ask.TheVariants.{Derivative, Jacobian, TimePartial, FirstProbe, SecondProbe, Column, Stage}
 use Rattle.attempts.specs.declared.Memo.{Memo}
-use Rattle.attempts.specs.Marks.{nothing_counted, with_request_time, counting, noting, counting_rhs}
-use Rattle.attempts.specs.Attempt.{Scratch, scratch, Stopped, on_marks, halt, refuse, ask, ask_rhs, choose, provided, resume, wanted}
+use Rattle.attempts.specs.Marks.{nothing_counted, with_request_time, counting, noting}
+use Rattle.attempts.specs.Attempt.{Asks, Given, Scratch, scratch, Stopped, on_marks, halt, refuse, ask, ask_rhs, choose, provided, resume, wanted}
+use Rattle.attempts.proofs.Requests.{AskInRange}
 use Rattle.refusals.specs.declared.Fixed.{Fixed}
 use Rattle.refusals.specs.declared.Progress.{Progress}
-use Rattle.refusals.specs.Requests.{ask_of, ask_number, ask_stage, request_after, stage_after, request_fits}
+use Rattle.refusals.specs.Requests.{ask_of, ask_number, ask_stage, request_after, stage_after}
 use Rattle.refusals.specs.Answers.{Lent, lending, kind_of, state_asked, request_of, asked, answer_of}
-use Rattle.refusals.specs.Tests.{shape_fits, pivots_unfit, supply_tests}
+use Rattle.refusals.specs.Tests.{pivots_unfit, file_tests, supply_tests}
 use Rattle.rosenbrock.specs.Calls.{Out, refusal, guarded, given_by, scratch_by, progress_after, settle, supply_of}
-use Rattle.refusals.proofs.Requests.{read_back, asked_open}
-use Rattle.refusals.proofs.Fitting.{shape_fits_lem}
+use Rattle.refusals.proofs.Requests.{read_back, asked_open, fits_after}
+use Rattle.refusals.proofs.Fitting.{LentShape, fits_tests}
 use Rattle.method.specs.Step.{Problem, Attempted, Evaluated}
 use Rattle.method.specs.Schedule.{Item, evaluate, test, asks_for, ends_in}
 use Rattle.method.specs.Conversation.{answer_to, Conversation, last_answer, Sized}
@@ -47,52 +49,16 @@ step_of fx file problem x m =
 
 -- what an attempt finds with the record and the file that it opens with, and what the problem answers
 pub record Ready (fx : Fixed) (file : List ℕ) (problem : Problem) (m : Lent) : Type 0 where
-  pub some : 1 ≤ fx.n
-  pub small : fx.n ≤ 32
-  pub staged : 1 ≤ fx.s
-  pub few : fx.s ≤ 8
-  pub state : length m.state ≡ fx.n
-  pub file_accepted : not (accepts file) ≡ false
-  pub file_supported : eqb (tableau_of file).counts.kind 1 ≡ false
-  pub file_stages : not (eqb (stages_of (tableau_of file)) fx.s) ≡ false
+  pub shape : LentShape fx m
+  pub file_passed : first_of (file_tests fx.s file) ≡ Ok tt
   pub sized : Sized fx.n problem
 
 -- a request that the next supply may answer
 pub record Answerable (fx : Fixed) (sc : Scratch) (a : Ask) : Type 0 where
   pub work : length sc.work ≡ needed_work fx.n fx.s
   pub pivots : length sc.pivots ≡ fx.n
-  pub request : request_fits fx.n fx.s (ask_number a) (ask_stage a) ≡ true
+  pub range : AskInRange fx.n fx.s a
   pub rows : pivots_unfit fx.n sc.pivots a ≡ false
-
--- no other request reads the pivots, and a column or a stage has to be in range
-module _ (fx : Fixed) (sc : Scratch) (work : length sc.work ≡ needed_work fx.n fx.s) (pivots : length sc.pivots ≡ fx.n) where
-  pub derivative_answerable : Answerable fx sc Derivative
-  unfolding request_fits ask_number ask_stage pivots_unfit
-  derivative_answerable = record { work = work; pivots = pivots; request = refl; rows = refl }
-
-  pub jacobian_answerable : Answerable fx sc Jacobian
-  unfolding request_fits ask_number ask_stage pivots_unfit
-  jacobian_answerable = record { work = work; pivots = pivots; request = refl; rows = refl }
-
-  pub partial_answerable : Answerable fx sc TimePartial
-  unfolding request_fits ask_number ask_stage pivots_unfit
-  partial_answerable = record { work = work; pivots = pivots; request = refl; rows = refl }
-
-  pub first_answerable : Answerable fx sc FirstProbe
-  unfolding request_fits ask_number ask_stage pivots_unfit
-  first_answerable = record { work = work; pivots = pivots; request = refl; rows = refl }
-
-  pub second_answerable : Answerable fx sc SecondProbe
-  unfolding request_fits ask_number ask_stage pivots_unfit
-  second_answerable = record { work = work; pivots = pivots; request = refl; rows = refl }
-
-  pub column_answerable : (k : ℕ) → k < fx.n → Answerable fx sc (Column k)
-  unfolding request_fits ask_number ask_stage pivots_unfit
-  column_answerable k h = record { work = work; pivots = pivots; request = lt-ltb k fx.n h; rows = refl }
-
-  pub stage_answerable : (i : ℕ) → i < fx.s → every fx.n (λ k. ltb (get_or sc.pivots k 0) fx.n) ≡ true → Answerable fx sc (Stage i)
-  unfolding request_fits ask_number ask_stage pivots_unfit
-  stage_answerable i h q = record { work = work; pivots = pivots; request = lt-ltb i fx.s h; rows = ap not q }
 
 -- what the supply after a request for the time t finds
 abbrev pub supplied : Float → Scratch → Scratch
@@ -117,28 +83,15 @@ module _ (fx : Fixed) (file : List ℕ) (problem : Problem) (x : Progress) (m : 
   abbrev There : Lent
   There = lending m.state sc.work sc.pivots
 
-  supply_passes : first_of (supply_tests fx file values Then There) ≡ 0
-  unfolding progress_after
+  supply_passes : first_of (supply_tests fx file values Then There) ≡ Ok tt
+  unfolding progress_after request_after stage_after
   supply_passes =
-      let shape : shape_fits fx.n fx.s (length m.state) (length sc.work) (length sc.pivots) ≡ true =
-      shape_fits_lem _ _ _ _ _
-      (record {
-        n_from_1 = ready.some;
-        n_to_32 = ready.small;
-        s_from_1 = ready.staged;
-        s_to_8 = ready.few;
-        of_state = ready.state;
-        of_work = fit.work;
-        of_pivots = fit.pivots;
-      }) in
+      let shape : LentShape fx There = rw (fit.work ∙ sym ready.shape.of_work, fit.pivots ∙ sym ready.shape.of_pivots) ready.shape in
       let wants : eqb (length values) (wanted fx.n (ask_of (ask_number a) (ask_stage a))) ≡ true =
       eq-eqb _ _ (long ∙ ap (wanted fx.n) (sym (read_back a))) in
-      later _ _ (ap not shape)
-      (later _ _ (ap not fit.request)
-      (later _ _ ready.file_accepted
-      (later _ _ ready.file_supported
-      (later _ _ ready.file_stages
-      (later _ _ (ap not (asked_open a)) (later _ _ (ap not wants) (later _ _ (ap (pivots_unfit fx.n sc.pivots) (read_back a) ∙ fit.rows) none)))))))
+      all_passed _ _ (fits_tests fx Then There (record { shape = shape; request = fits_after fx.n fx.s (Asks a) fit.range }))
+      ∙ all_passed (file_tests fx.s file) _ ready.file_passed
+      ∙ holds_later _ _ (asked_open a) (holds_later _ _ wants (later _ _ (ap (pivots_unfit fx.n sc.pivots) (read_back a) ∙ fit.rows) none))
 
   resumed : settle fx x m (resume (given_by fx file x m) a values (scratch (record { memo = memo; counted = nothing_counted }) sc.work sc.pivots))
       ≡ supply_of fx file values Then There
@@ -147,68 +100,83 @@ module _ (fx : Fixed) (file : List ℕ) (problem : Problem) (x : Progress) (m : 
       is_answered (refusal Then There) supply_passes
       (ap (λ (b : Ask). settle fx x m (resume (given_by fx file x m) b values (scratch (record { memo = memo; counted = nothing_counted }) sc.work sc.pivots))) (sym (read_back a)))
 
--- what is asked after a stop is what the items ask for, and the last answer is theirs
-pub record Conforms (fx : Fixed) (file : List ℕ) (problem : Problem) (x : Progress) (m : Lent) (e : Evaluated) (items : List Item) (r : Stopped) : Type 0 where
-  pub conversation : Conversation fx file problem (asks_for items) (settle fx x m r) (last_answer (step_of fx file problem x m) x.end (ends_in items) e)
+-- an attempt that is open, with the problem that answers its requests and the evaluations of its step
+pub record Open : Type 0 where
+  pub fx : Fixed
+  pub file : List ℕ
+  pub problem : Problem
+  pub x : Progress
+  pub m : Lent
+  pub e : Evaluated
+  pub ready : Ready fx file problem m
+  pub moves : eq x.step 𝟎 ≡ false
 
-module _ {fx : Fixed} {file : List ℕ} {problem : Problem} {x : Progress} {m : Lent} {e : Evaluated} where
-  pub stops : (k : ℕ) (sc : Scratch) (items : List Item) → Conforms fx file problem x m e (test (k when true) ∷ items) (refuse k sc)
+abbrev pub step_in : Open → Attempted
+step_in o = step_of o.fx o.file o.problem o.x o.m
+
+abbrev pub given_in : Open → Given
+given_in o = given_by o.fx o.file o.x o.m
+
+-- what is asked after a stop is what the items ask for, and the last answer is theirs
+pub record Conforms (o : Open) (items : List Item) (r : Stopped) : Type 0 where
+  pub conversation : Conversation o.fx o.file o.problem (asks_for items) (settle o.fx o.x o.m r) (last_answer (step_in o) o.x.end (ends_in items) o.e)
+
+module _ {o : Open} where
+  pub stops : {k : Refusal} {items : List Item} (sc : Scratch) → Conforms o (test (k when true) ∷ items) (refuse k sc)
   unfolding Conversation asks_for ends_in last_answer refuse halt settle answer_of
-  stops k sc items = record { conversation = refl }
+  stops sc = record { conversation = refl }
 
   -- a test that is passed, or ends the attempt
-  module _ (k : ℕ) (sc : Scratch) (r : Stopped) (items : List Item) where
-    by_test : (b : Bool) → (b ≡ true → Conforms fx file problem x m e items r) → Conforms fx file problem x m e (test (k when not b) ∷ items) (provided b k sc r)
+  module _ {k : Refusal} {r : Stopped} {items : List Item} (sc : Scratch) where
+    by_test : (b : Bool) → (b ≡ true → Conforms o items r) → Conforms o (test (k when not b) ∷ items) (provided b k sc r)
     unfolding asks_for ends_in provided choose
     by_test true h = record { conversation = (h refl).conversation }
-    by_test false h = stops k sc items
+    by_test false h = stops sc
 
-    pub goes_on : {ok b : Bool} → ok ≡ b → (b ≡ true → Conforms fx file problem x m e items r) → Conforms fx file problem x m e (test (k when not b) ∷ items) (provided ok k sc r)
-    goes_on {ok} {b} q h = subst (λ (c : Bool). Conforms fx file problem x m e (test (k when not b) ∷ items) (provided c k sc r)) (sym q) (by_test b h)
+    pub goes_on : {ok b : Bool} → ok ≡ b → (b ≡ true → Conforms o items r) → Conforms o (test (k when not b) ∷ items) (provided ok k sc r)
+    goes_on {ok} {b} q h = subst (λ (c : Bool). Conforms o (test (k when not b) ∷ items) (provided c k sc r)) (sym q) (by_test b h)
 
-    pub goes_on_unless : (b : Bool) → (b ≡ false → Conforms fx file problem x m e items r) → Conforms fx file problem x m e (test (k when b) ∷ items) (provided (not b) k sc r)
+    pub goes_on_unless : {b : Bool} → (b ≡ false → Conforms o items r) → Conforms o (test (k when b) ∷ items) (provided (not b) k sc r)
     unfolding asks_for ends_in provided choose
-    goes_on_unless true h = stops k sc items
-    goes_on_unless false h = record { conversation = (h refl).conversation }
+    goes_on_unless {b = true} h = stops sc
+    goes_on_unless {b = false} h = record { conversation = (h refl).conversation }
 
   -- a choice between items
-  pub chooses : (b : Bool) (us vs items : List Item) (q r : Stopped) → (b ≡ true → Conforms fx file problem x m e (us ++ items) q)
-      → (b ≡ false → Conforms fx file problem x m e (vs ++ items) r) → Conforms fx file problem x m e (cond b us vs ++ items) (choose b q r)
+  pub chooses : (us vs items : List Item) {b : Bool} {q r : Stopped} → (b ≡ true → Conforms o (us ++ items) q) → (b ≡ false → Conforms o (vs ++ items) r)
+      → Conforms o (cond b us vs ++ items) (choose b q r)
   unfolding choose
-  chooses true us vs items q r h k = h refl
-  chooses false us vs items q r h k = k refl
+  chooses us vs items {b = true} h k = h refl
+  chooses us vs items {b = false} h k = k refl
 
   -- a choice that the items do not show
-  module _ {b : Bool} (items : List Item) (q r : Stopped) where
-    pub chosen : b ≡ true → Conforms fx file problem x m e items q → Conforms fx file problem x m e items (choose b q r)
+  module _ {b : Bool} {items : List Item} where
+    pub chosen : (r : Stopped) {q : Stopped} → b ≡ true → Conforms o items q → Conforms o items (choose b q r)
     unfolding choose
-    chosen t h = subst (λ (c : Bool). Conforms fx file problem x m e items (choose c q r)) (sym t) h
+    chosen r {q} t h = subst (λ (c : Bool). Conforms o items (choose c q r)) (sym t) h
 
-    pub not_chosen : b ≡ false → Conforms fx file problem x m e items r → Conforms fx file problem x m e items (choose b q r)
+    pub not_chosen : (q : Stopped) {r : Stopped} → b ≡ false → Conforms o items r → Conforms o items (choose b q r)
     unfolding choose
-    not_chosen t h = subst (λ (c : Bool). Conforms fx file problem x m e items (choose c q r)) (sym t) h
+    not_chosen q {r} t h = subst (λ (c : Bool). Conforms o items (choose c q r)) (sym t) h
 
   -- a request, answered: z is the state at which it asks
-  module _ (ready : Ready fx file problem m) (a : Ask) (t : Float) where
-    pub asks : (sc : Scratch) (items : List Item) (z : List Float) → state_asked fx (lending m.state sc.work sc.pivots) a ≡ z → Answerable fx sc a
-        → Conforms fx file problem x m e items (resume (given_by fx file x m) a (answer_to problem (kind_of a) t z) (supplied t sc))
-        → Conforms fx file problem x m e (evaluate (record { kind = kind_of a; time = t; state = z }) ∷ items) (ask a t sc)
+  module _ {a : Ask} {t : Float} {items : List Item} {z : List Float} where
+    pub asks : {sc : Scratch} → state_asked o.fx (lending o.m.state sc.work sc.pivots) a ≡ z → Answerable o.fx sc a
+        → Conforms o items (resume (given_in o) a (answer_to o.problem (kind_of a) t z) (supplied t sc))
+        → Conforms o (evaluate (record { kind = kind_of a; time = t; state = z }) ∷ items) (ask a t sc)
     unfolding Conversation asks_for ends_in ask halt on_marks noting with_request_time settle answer_of request_of request_after stage_after progress_after
-    asks sc items z state fit then =
+    asks {sc} state fit then =
         record {
           conversation = (
             ap (λ (l : List Float). asked (record { kind = kind_of a; time = t; state = l })) state,
-            subst (λ (o : Out). Conversation fx file problem (asks_for items) o (last_answer (step_of fx file problem x m) x.end (ends_in items) e))
-                (resumed fx file problem x m ready sc (with_request_time t sc.marks.memo) a fit (answer_to problem (kind_of a) t z)
-                (answer_long fx.n problem ready.sized a t z))
+            subst (λ (q : Out). Conversation o.fx o.file o.problem (asks_for items) q (last_answer (step_in o) o.x.end (ends_in items) o.e))
+                (resumed o.fx o.file o.problem o.x o.m o.ready sc (with_request_time t sc.marks.memo) a fit (answer_to o.problem (kind_of a) t z)
+                (answer_long o.fx.n o.problem o.ready.sized a t z))
                 then.conversation,
           );
         }
 
-    pub asks_rhs : (sc : Scratch) (items : List Item) (z : List Float) → state_asked fx (lending m.state sc.work sc.pivots) a ≡ z → Answerable fx sc a
-        → Conforms fx file problem x m e items (resume (given_by fx file x m) a (answer_to problem (kind_of a) t z) (supplied t sc))
-        → Conforms fx file problem x m e (evaluate (record { kind = kind_of a; time = t; state = z }) ∷ items) (ask_rhs a t sc)
+    pub asks_rhs : {sc : Scratch} → state_asked o.fx (lending o.m.state sc.work sc.pivots) a ≡ z → Answerable o.fx sc a
+        → Conforms o items (resume (given_in o) a (answer_to o.problem (kind_of a) t z) (supplied t sc))
+        → Conforms o (evaluate (record { kind = kind_of a; time = t; state = z }) ∷ items) (ask_rhs a t sc)
     unfolding ask_rhs on_marks counting
-    asks_rhs sc items z state fit then =
-        asks (on_marks (counting counting_rhs) sc) items z state
-        (record { work = fit.work; pivots = fit.pivots; request = fit.request; rows = fit.rows }) then
+    asks_rhs state fit then = asks state (record { work = fit.work; pivots = fit.pivots; range = fit.range; rows = fit.rows }) then

@@ -1,9 +1,11 @@
 -- An attempt whose requests are answered by f, J and fₜ, and what is claimed of it. Definitions only.
-use Rattle.std.specs.Prelude.{◌≡◌, ℕ, ◌*◌, Bool, true, false, cond, ◌&&◌, List, [], ◌∷◌, eqb, length, replicate, Float}
-use Rattle.std.proofs.Math.Option.{Option, none, some}
+use Rattle.std.specs.Prelude.{◌≡◌, ℕ, ◌*◌, Bool, cond, ◌&&◌, List, [], ◌∷◌, eqb, length, replicate, Float, Option, Some, None, Ok}
+use Rattle.std.specs.Bool.{then_some}
+use Rattle.std.proofs.Math.Option as logic
 use Rattle.std.specs.Float.Ieee.{eq}
 use Rattle.float.specs.Operators.{◌⊕◌, ◌⊖◌, 𝟎}
 use Rattle.vector.specs.Parts.{part}
+use Rattle.stepping.specs.declared.Refusal.{Refusal}
 use Rattle.stepping.specs.Refusals.{first_of}
 use Rattle.tableau.specs.Tableau.{present, stages_of}
 use Rattle.tableau.specs.File.{tableau_of}
@@ -13,7 +15,7 @@ use Rattle.refusals.specs.declared.Progress.{Progress}
 use Rattle.refusals.specs.Answers.{Lent, Request, Kind, derivative, jacobian, time_partial, View, Answer, refused, asked, shown}
 use Rattle.refusals.specs.Tests.{attempt_tests, step_tests}
 use Rattle.rosenbrock.specs.Calls.{Out, attempt_of, supply_of}
-use Rattle.method.specs.Step.{Problem, Attempted, Cache, cached, nothing, Caches, Evaluated, evaluated, stages, derivatives, candidate, error}
+use Rattle.method.specs.Step.{Problem, Attempted, Caches, Evaluated, evaluated, stages, derivatives, candidate, error}
 use Rattle.method.specs.Schedule.{schedule, asks_for, ends_in}
 
 -- ---- the conversation
@@ -35,8 +37,8 @@ Conversation fx file p (r ∷ rs) out last =
 
 module _ (p : Attempted) (end : Float) where
   -- only for the embedded estimator with btilde
-  unfoldable pub shown_error : List Float → Option (List Float)
-  shown_error x = let counts = p.tableau.counts in cond (eqb counts.estimator 0 && present counts) (some x) none
+  unfoldable pub shown_error : List Float → logic.Option (List Float)
+  shown_error x = let counts = p.tableau.counts in cond (eqb counts.estimator 0 && present counts) (logic.some x) logic.none
 
   unfoldable pub step_view : Evaluated → View
   step_view e =
@@ -67,9 +69,9 @@ module _ (p : Attempted) (end : Float) where
         time_partial = [];
       }
 
-  unfoldable pub last_answer : Option ℕ → Evaluated → Answer
-  last_answer (some k) e = refused k
-  last_answer none e = shown (step_view e)
+  unfoldable pub last_answer : Option Refusal → Evaluated → Answer
+  last_answer (Some refusal) e = refused refusal
+  last_answer None e = shown (step_view e)
 
   -- what is asked for, and the last answer: at the step 0 nothing is asked
   unfoldable pub requests_of : Caches → List Request
@@ -86,18 +88,14 @@ pub record Sized (n : ℕ) (p : Problem) : Type 0 where
   pub of_J : (t : Float) (y : List Float) → length (p.J t y) ≡ n * n
   pub of_fₜ : (t : Float) (y : List Float) → length (p.fₜ t y) ≡ n
 
-unfoldable pub if_valid : {A : Type 0} → Bool → A → Cache A
-if_valid true x = cached x
-if_valid false x = nothing
-
 -- what the record and the work have cached
 unfoldable pub caches_in : Fixed → Progress → Lent → Caches
 caches_in fx x m =
     let n = fx.n in
     record {
-      derivative = if_valid x.memo.derivative_valid (part (current_at n) n m.work);
+      derivative = then_some x.memo.derivative_valid (part (current_at n) n m.work);
       differentiation =
-          if_valid x.memo.differentiation_valid
+          then_some x.memo.differentiation_valid
           (record { J = part (jacobian_at n) (n * n) m.work; fₜ = part (time_partial_at n) n m.work });
     }
 
@@ -120,8 +118,8 @@ attempted_by fx file problem step host_J host_fₜ x m =
 -- and shows exactly that step, or ends in the refusal of the first test that holds.
 abbrev pub AttemptIsStep : Type 0
 AttemptIsStep = (fx : Fixed) (file : List ℕ) (problem : Problem) (step : Float) (host_J host_fₜ : Bool) (x : Progress) (m : Lent)
-    → first_of (attempt_tests fx file x m) ≡ 0
-    → first_of (step_tests step x) ≡ 0
+    → first_of (attempt_tests fx file x m) ≡ Ok tt
+    → first_of (step_tests step x) ≡ Ok tt
     → Sized fx.n problem
     → let p = attempted_by fx file problem step host_J host_fₜ x m in
     let c = caches_in fx x m in

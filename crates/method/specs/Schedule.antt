@@ -1,21 +1,21 @@
--- Which evaluations a step asks for, in which order, and what is tested between them (the scope paper, From the entry: attempt_to). The first test that
--- holds ends the step with its number. Definitions only.
-use Rattle.std.specs.Prelude.{ℕ, zero, suc, true, false, not, cond, List, [], ◌∷◌, ◌++◌, eqb, Float}
-use Rattle.std.proofs.Math.Option.{Option, none, some}
+-- Which evaluations a step asks for, in which order, and what is tested between them. The first test that holds ends the step with its refusal.
+-- Definitions only.
+use Rattle.std.specs.Prelude.{ℕ, zero, suc, true, false, not, cond, List, [], ◌∷◌, ◌++◌, Float, Option, Some, None, Result, Ok, Err, is_ok}
 use Rattle.std.specs.Float.Ieee.{eq}
 use Rattle.std.specs.Float.Ieee.Scale.{finite}
 use Rattle.float.specs.Operators.{𝟎}
-use Rattle.vector.specs.Lists.{el, all_finite}
-use Rattle.linear.specs.Calls.{number_of, raw_of}
-use Rattle.time_difference.specs.declared.Probes.{Probes}
-use Rattle.time_difference.specs.declared.Probes.TheVariants.{One, Two, Refused}
+use Rattle.vector.specs.Lists.{el}
+use Rattle.linear.specs.Calls.{raw_of}
 use Rattle.time_difference.specs.Policy.{probes}
 use Rattle.tableau.specs.Tableau.{stages_of}
-use Rattle.stepping.specs.Refusals.{non_finite, time_resolution, singular, Test, ◌when◌}
+use Rattle.stepping.specs.declared.Refusal.{Refusal}
+use Rattle.stepping.specs.declared.Refusal.TheVariants.{NonFinite, TimeResolution, Singular}
+use Rattle.stepping.specs.Refusals.{Test, ◌when◌}
+use Rattle.stepping.specs.Refusals as refusals
 use Rattle.stages.specs.Method.{stage_time}
 use Rattle.differentiation.specs.Differences.{rise}
 use Rattle.refusals.specs.Answers.{Request, Kind, derivative, jacobian, time_partial}
-use Rattle.method.specs.Step.{Attempted, Evaluated, matrix, state_of, reused, derivative_of, stage_of, stages, candidate, error, probed_state, Cache, cached, nothing, Caches, evaluated}
+use Rattle.method.specs.Step.{Attempted, Evaluated, matrix, state_of, reused, derivative_of, stage_of, stages, candidate, error, probed_state, Caches, evaluated}
 
 -- an evaluation that is asked for, or a test
 pub data Item : Type 0 where
@@ -27,12 +27,12 @@ at kind time state = evaluate (record { kind = kind; time = time; state = state 
 
 -- 2 where a component is not finite
 abbrev pub finite_test : List Float → Item
-finite_test x = test (non_finite when not (all_finite x))
+finite_test x = test (refusals.finite_test x)
 
 -- what is asked for where it is not cached
-unfoldable pub unless_cached : {A : Type 0} → Cache A → List Item → List Item
-unless_cached (cached x) items = []
-unless_cached nothing items = items
+unfoldable pub unless_cached : {A : Type 0} → Option A → List Item → List Item
+unless_cached (Some x) items = []
+unless_cached None items = items
 
 module _ (p : Attempted) (e : Evaluated) where
   abbrev f : Float → List Float → List Float
@@ -47,7 +47,7 @@ module _ (p : Attempted) (e : Evaluated) where
   unfoldable pub column_items : ℕ → List Item
   column_items k =
       let z = probed_state p e.f₀ k in
-      finite_test z ∷ test (time_resolution when eq (rise (el p.y k)) 𝟎) ∷ at derivative p.t z ∷ finite_test (f p.t z) ∷ []
+      finite_test z ∷ test (TimeResolution when eq (rise (el p.y k)) 𝟎) ∷ at derivative p.t z ∷ finite_test (f p.t z) ∷ []
 
   -- columns k, .., k + r - 1
   unfoldable pub columns_items : ℕ → ℕ → List Item
@@ -59,10 +59,10 @@ module _ (p : Attempted) (e : Evaluated) where
 
   -- ---- the time partial
 
-  unfoldable pub probe_items : Probes → List Item
-  probe_items (Refused k) = test (k when true) ∷ []
-  probe_items (One a) = at derivative a p.y ∷ finite_test (f a p.y) ∷ []
-  probe_items (Two a b) = at derivative a p.y ∷ finite_test (f a p.y) ∷ at derivative b p.y ∷ finite_test (f b p.y) ∷ []
+  unfoldable pub probe_items : Result (Float × Option Float) Refusal → List Item
+  probe_items (Err refusal) = test (refusal when true) ∷ []
+  probe_items (Ok (a, None)) = at derivative a p.y ∷ finite_test (f a p.y) ∷ []
+  probe_items (Ok (a, Some b)) = at derivative a p.y ∷ finite_test (f a p.y) ∷ at derivative b p.y ∷ finite_test (f b p.y) ∷ []
 
   unfoldable pub partial_items : List Item
   partial_items =
@@ -72,7 +72,7 @@ module _ (p : Attempted) (e : Evaluated) where
   -- ---- the matrix, and 6 where the elimination finds no pivot
 
   unfoldable pub matrix_items : List Item
-  matrix_items = finite_test (matrix p e) ∷ test (singular when not (eqb (number_of (raw_of p.n (matrix p e) []).answer) 0)) ∷ []
+  matrix_items = finite_test (matrix p e) ∷ test (Singular when not (is_ok (raw_of p.n (matrix p e) []).answer)) ∷ []
 
   -- ---- the stages
 
@@ -81,7 +81,7 @@ module _ (p : Attempted) (e : Evaluated) where
   stage_derivative_items i u =
       let time = stage_time p.tableau p.t p.h i in
       cond (reused p e i) []
-      (test (non_finite when not (finite time)) ∷ at derivative time (state_of p e i u) ∷ finite_test (derivative_of p e i u) ∷ [])
+      (test (NonFinite when not (finite time)) ∷ at derivative time (state_of p e i u) ∷ finite_test (derivative_of p e i u) ∷ [])
 
   unfoldable pub stage_items : ℕ → List Item
   stage_items i = let u = stages p e i in finite_test (state_of p e i u) ∷ (stage_derivative_items i u ++ (finite_test (stage_of p e i u) ∷ []))
@@ -102,16 +102,16 @@ schedule p c =
     ++ (unless_cached c.differentiation (jacobian_items p e ++ partial_items p e)
     ++ (matrix_items p e ++ (stages_items p e 0 (stages_of p.tableau) ++ end_items p e)))
 
--- ---- what is asked for, and the number with which it ends, if a test holds
+-- ---- what is asked for, and the refusal in which it ends, if a test holds
 
 unfoldable pub asks_for : List Item → List Request
 asks_for [] = []
 asks_for (evaluate r ∷ items) = r ∷ asks_for items
-asks_for (test (k when true) ∷ items) = []
-asks_for (test (k when false) ∷ items) = asks_for items
+asks_for (test (refusal when true) ∷ items) = []
+asks_for (test (refusal when false) ∷ items) = asks_for items
 
-unfoldable pub ends_in : List Item → Option ℕ
-ends_in [] = none
+unfoldable pub ends_in : List Item → Option Refusal
+ends_in [] = None
 ends_in (evaluate r ∷ items) = ends_in items
-ends_in (test (k when true) ∷ items) = some k
-ends_in (test (k when false) ∷ items) = ends_in items
+ends_in (test (refusal when true) ∷ items) = Some refusal
+ends_in (test (refusal when false) ∷ items) = ends_in items

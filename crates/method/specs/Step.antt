@@ -1,16 +1,15 @@
 -- One step of a Rosenbrock method (Hairer and Wanner, Solving Ordinary Differential Equations II, 2nd edition, IV.7; by element in stages/specs/Method) for
 -- y' = f(t, y): from the time t and the state y, of n components, by the step h. The system of each stage is solved by the elimination of Golub and
 -- Van Loan (linear/specs). Vectors are lists of their components, matrices lists of their entries by rows. Definitions only.
-use Rattle.std.specs.Prelude.{ℕ, zero, suc, Bool, true, false, cond, ◌&&◌, List, [], ◌++◌, eqb, Float}
+use Rattle.std.specs.Prelude.{ℕ, zero, suc, Bool, true, false, cond, ◌&&◌, List, [], ◌++◌, eqb, Float, Option, Some, None, Result, Ok, Err, unwrap_or}
 use Rattle.std.specs.Float.Ieee.{eq}
 use Rattle.float.specs.Operators.{◌⊖◌, 𝟎}
 use Rattle.vector.specs.Lists.{el, table}
 use Rattle.vector.specs.Matrices.{entry, rows}
+use Rattle.stepping.specs.declared.Refusal.{Refusal}
 use Rattle.linear.specs.Elimination.{eliminated, pivot_of}
 use Rattle.linear.specs.Substitution.{solution}
 use Rattle.time_difference.specs.declared.TimeDifferencePolicy.{TimeDifferencePolicy}
-use Rattle.time_difference.specs.declared.Probes.{Probes}
-use Rattle.time_difference.specs.declared.Probes.TheVariants.{One, Two, Refused}
 use Rattle.time_difference.specs.Policy.{probes}
 use Rattle.time_difference.specs.Probes.{partial}
 use Rattle.tableau.specs.Tableau.{Tableau, stages_of, c_of}
@@ -95,11 +94,11 @@ module _ (p : Attempted) (f₀ : List Float) where
   probed_jacobian = rows (λ i k. quotient (rise (el p.y k)) (el (p.problem.f p.t (probed_state k))) (el f₀) i) p.n p.n
 
   -- from one probe or two; there is none where the policy refuses
-  unfoldable pub probed_partial : Probes → List Float
-  probed_partial (One a) = table (λ k. partial false (el f₀ k) (el (p.problem.f a p.y) k) 𝟎 (a ⊖ p.t) 𝟎) p.n
-  probed_partial (Two a b) =
+  unfoldable pub probed_partial : Result (Float × Option Float) Refusal → List Float
+  probed_partial (Ok (a, None)) = table (λ k. partial false (el f₀ k) (el (p.problem.f a p.y) k) 𝟎 (a ⊖ p.t) 𝟎) p.n
+  probed_partial (Ok (a, Some b)) =
       table (λ k. partial true (el f₀ k) (el (p.problem.f a p.y) k) (el (p.problem.f b p.y) k) (a ⊖ p.t) (b ⊖ p.t)) p.n
-  probed_partial (Refused k) = []
+  probed_partial (Err refusal) = []
 
   unfoldable pub jacobian_at : List Float
   jacobian_at = cond p.host_jacobian (p.problem.J p.t p.y) probed_jacobian
@@ -109,28 +108,20 @@ module _ (p : Attempted) (f₀ : List Float) where
 
 -- ---- what is cached of them from an earlier attempt
 
-pub data Cache (A : Type 0) : Type 0 where
-  cached : A → Cache A
-  nothing : Cache A
-
 pub record Differentiation : Type 0 where
   pub J : List Float
   pub fₜ : List Float
 
 pub record Caches : Type 0 where
-  pub derivative : Cache (List Float)
-  pub differentiation : Cache Differentiation
-
-unfoldable pub or_else : {A : Type 0} → Cache A → A → A
-or_else (cached x) y = x
-or_else nothing y = y
+  pub derivative : Option (List Float)
+  pub differentiation : Option Differentiation
 
 module _ (p : Attempted) (c : Caches) where
   unfoldable pub derivative_at : List Float
-  derivative_at = or_else c.derivative (p.problem.f p.t p.y)
+  derivative_at = unwrap_or c.derivative (p.problem.f p.t p.y)
 
   unfoldable pub differentiation_at : Differentiation
-  differentiation_at = or_else c.differentiation (record { J = jacobian_at p derivative_at; fₜ = partial_at p derivative_at })
+  differentiation_at = unwrap_or c.differentiation (record { J = jacobian_at p derivative_at; fₜ = partial_at p derivative_at })
 
   unfoldable pub evaluated : Evaluated
   evaluated = record { f₀ = derivative_at; J = differentiation_at.J; fₜ = differentiation_at.fₜ }

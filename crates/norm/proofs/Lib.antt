@@ -1,6 +1,3 @@
--- Laws that dependents may cite, and the edges.
-pub mod Magnitude
-mod Finite
-mod Answers
+-- The edges, and that a maximum of two zeros is one value.
 pub mod Choice
 pub mod Edges

@@ -1,3 +1,2 @@
 pub mod ErrorNorm
-pub mod Steps
 pub mod ScaledErrorNorm

@@ -1,126 +1,93 @@
 // The Jacobian and the time partial of an attempt: what is asked for them, and how it goes on when they
 // are there. The names and the order of the tests are those of rosenbrock.rs, whose attempt asks its
-// closures where this one stops.
+// closures where this one stops. Sizes is a clause of each call for the reason said at attempts' Given.
 #![tactic(auto)]
 
-ghost use Rattle.std.specs.Prelude.{◌≡◌, List, ℕ, ◌≤◌, ◌<◌, Float, length};
-ghost use Rattle.time_difference.specs.Policy.{probes};
-ghost use Rattle.tableau.specs.Tableau.{Tableau};
-ghost use Rattle.tableau.specs.File.{tableau_of};
-ghost use Rattle.stages.specs.Layout.{Room};
-ghost use Rattle.attempts.specs.declared.Counted.{Counted};
-ghost use Rattle.attempts.specs.declared.Marks.{Marks};
-ghost use Rattle.attempts.specs.Attempt.{Given, Scratch, given, scratch, partial_done, combine, ask_first_probe, jacobian_done, open_column, next_column};
-ghost use Rattle.attempts.specs.Calls.{Sizes, halt_stop, moved_stop, marked};
+ghost use Rattle.std.specs.Prelude.{◌≡◌, ◌≤◌, ◌<◌, length};
+ghost use Rattle.attempts.specs.Marks.{noting, with_differentiation};
+ghost use Rattle.attempts.specs.Attempt.{Scratch, on_marks, factor, combine, ask_partial, jacobian_done, open_column, next_column};
+ghost use Rattle.attempts.specs.Calls.{Sizes, given_by, halt_stop, Halts, Moves, MovesFrom};
 
-use attempts::{Halt, Memo, Moved, Setting};
-use time_difference::Probes;
+use attempts::{Given, Halt, Memo, Moved};
+use stages::Work;
+use stepping::Refusal;
 
 // ---- the time partial, then the matrix
 
-pub fn partial_done(
-    g: Setting,
-    file: &[u8],
-    state: &[f64],
-    work: &mut [f64],
-    pivots: &mut [usize],
-) -> Moved
-    requires { Sizes g (length state.now) (length work.old) × (length pivots.old ≡ g.n) }
-    ensures { (m : Marks) → moved_stop result (scratch m work.new pivots.new)
-        ≡ partial_done (given g (tableau_of file.now) state.now) (scratch m work.old pivots.old) }
+// The Jacobian and the time partial are there, and finite.
+#[tactic(auto, using(attempts::proofs::Links::or_true), unfolding(attempts::specs::Marks::noting, attempts::specs::Marks::with_differentiation, attempts::specs::Calls::moved_stop, attempts::specs::Calls::moved_marks, attempts::specs::Attempt::on_marks, attempts::specs::Marks::with_caches))]
+pub fn differentiated(given: &Given, work: &mut Work, pivots: &mut [usize]) -> Moved
+    requires { Sizes given.now work.old × (length pivots.old ≡ given.now.setting.n) }
+    ensures { Moves result work.old work.new pivots.old pivots.new (λ x. factor (given_by given.now) (on_marks (noting with_differentiation) x)) }
 {
-    let n = g.n;
-    if !attempts::finite_at(work, 4 * n, n) {
-        return attempts::moved_by(false, false, Halt::Ends(stepping::NON_FINITE));
+    Moved {
+        differentiation: true,
+        ..given.factor(work, pivots)
     }
-    let mut moved = attempts::factor(file, state, work, pivots, n, g.s, g.time, g.step);
-    moved.differentiation = true;
-    moved
 }
 
 // The time partial from the probes.
-pub fn combine(
-    g: Setting,
-    file: &[u8],
-    state: &[f64],
-    work: &mut [f64],
-    pivots: &mut [usize],
-    memo: Memo,
-) -> Moved
-    requires { Sizes g (length state.now) (length work.old) × (length pivots.old ≡ g.n) }
-    ensures { (c : Counted) → moved_stop result (scratch (marked memo c) work.new pivots.new)
-        ≡ combine (given g (tableau_of file.now) state.now) (scratch (marked memo c) work.old pivots.old) }
+#[tactic(auto, using(crate::proofs::Probes::one_probe), unfolding(stepping::specs::Refusals::first_of, attempts::specs::Attempt::combine, attempts::specs::Attempt::on_work, attempts::specs::Attempt::partial_done, attempts::specs::Attempt::provided, attempts::specs::Attempt::choose, attempts::specs::Marks::second_probe, attempts::specs::Calls::halt_stop, attempts::specs::Calls::moved_stop, attempts::specs::Calls::moved_marks, attempts::specs::Attempt::on_marks, attempts::specs::Marks::with_caches))]
+pub fn combine(given: &Given, work: &mut Work, pivots: &mut [usize], memo: &Memo) -> Moved
+    requires { Sizes given.now work.old × (length pivots.old ≡ given.now.setting.n) }
+    ensures { MovesFrom memo.now result work.old work.new pivots.old pivots.new (combine (given_by given.now)) }
 {
-    let n = g.n;
-    let first = memo.first_probe - g.time;
-    let second = memo.second_probe - g.time;
-    differentiation::time_partial(work, n, memo.two_probes, first, second);
-    partial_done(g, file, state, work, pivots)
-}
-
-// The first probe of the time partial is asked for, or the policy refuses.
-fn ask_first_probe(probes: Probes) -> Halt
-    ensures { (g : Given) (x : Scratch) → halt_stop result x ≡ ask_first_probe g probes x }
-{
-    match probes {
-        Probes::Refused(number) => Halt::Ends(number),
-        Probes::One(first) => Halt::FirstProbe(false, first, 0.0),
-        Probes::Two(first, second) => Halt::FirstProbe(true, first, second),
+    let time = given.setting.time;
+    let first = memo.first_probe - time;
+    let second = memo.second_probe().map(|second| second - time);
+    differentiation::set_time_partial(work, first, second);
+    match stepping::finite(work.time_partial()) {
+        Ok(()) => differentiated(given, work, pivots),
+        Err(refusal) => Moved::nothing(Err(refusal)),
     }
-}
-
-// The first probe of the time partial that the policy asks for.
-pub fn ask_probes(g: Setting) -> Halt
-    ensures { (t : Tableau) (state : List Float) (x : Scratch) → halt_stop result x ≡ ask_first_probe (given g t state) (probes g.policy g.time g.step) x }
-{
-    let policy = g.policy;
-    ask_first_probe(policy.probes(g.time, g.step))
 }
 
 // ---- the Jacobian, then the time partial
 
-// The host's time partial, or the first of its probes. A Jacobian of the host's own is tested where it is
-// supplied (crates/evaluations), so that its answer is made there and not copied.
-fn jacobian_done(g: Setting, work: &[f64]) -> Halt
-    requires { Room g.n g.s (length work.now) }
-    ensures { (t : Tableau) (state : List Float) (m : Marks) (p : List ℕ) → halt_stop result (scratch m work.now p)
-        ≡ jacobian_done (given g t state) (scratch m work.now p) }
+// The host's time partial, or the first of its probes.
+#[tactic(auto, unfolding(attempts::specs::Attempt::ask_partial, attempts::specs::Attempt::choose, attempts::specs::Attempt::ask_first_probe, attempts::specs::Calls::halt_stop))]
+pub fn ask_partial(given: &Given) -> Result<Halt, Refusal>
+    ensures { (x : Scratch) → halt_stop result x ≡ ask_partial (given_by given.now) x }
 {
-    let n = g.n;
-    if !attempts::finite_at(work, 8 * n, n * n) {
-        return Halt::Ends(stepping::NON_FINITE);
+    let time = given.setting.time;
+    if given.setting.host_time_partial {
+        return Ok(Halt::TimePartial(time));
     }
-    if g.host_time_partial {
-        return Halt::TimePartial(g.time);
-    }
-    ask_probes(g)
+    let (first, second) = given.setting.policy.probes(time, given.setting.step)?;
+    Ok(Halt::FirstProbe(first, second))
+}
+
+#[tactic(auto, unfolding(stepping::specs::Refusals::first_of, attempts::specs::Attempt::jacobian_done, attempts::specs::Attempt::provided, attempts::specs::Attempt::choose, attempts::specs::Calls::halt_stop))]
+fn jacobian_done(given: &Given, work: &Work) -> Result<Halt, Refusal>
+    requires { Sizes given.now work.now }
+    ensures { Halts result work.now work.now (jacobian_done (given_by given.now)) }
+{
+    stepping::finite(work.jacobian())?;
+    ask_partial(given)
 }
 
 // Column k of the probed Jacobian: the derivative at the probe's state.
-fn open_column(g: Setting, state: &[f64], work: &mut [f64], k: usize) -> Halt
-    requires { Sizes g (length state.now) (length work.old) × (k < g.n) }
-    ensures { (t : Tableau) (m : Marks) (p : List ℕ) → halt_stop result (scratch m work.new p)
-        ≡ open_column (given g t state.now) k (scratch m work.old p) }
+#[tactic(auto, unfolding(stepping::specs::Refusals::first_of, attempts::specs::Attempt::open_column, attempts::specs::Attempt::on_work, attempts::specs::Attempt::provided, attempts::specs::Attempt::choose, attempts::specs::Calls::halt_stop))]
+fn open_column(given: &Given, work: &mut Work, k: usize) -> Result<Halt, Refusal>
+    requires { Sizes given.now work.old × (k < given.now.setting.n) }
+    ensures { Halts result work.old work.new (open_column (given_by given.now) k) }
 {
-    let n = g.n;
-    let y = state[k];
-    differentiation::probe_state(work, state, n, k);
-    if !attempts::finite_at(work, 5 * n, n) {
-        return Halt::Ends(stepping::NON_FINITE);
+    differentiation::set_probe_state(work, given.state, k);
+    stepping::finite(work.probe_state())?;
+    if differentiation::rise(given.state[k]) == 0.0 {
+        return Err(Refusal::TimeResolution);
     }
-    if differentiation::rise(y) == 0.0 {
-        return Halt::Ends(stepping::TIME_RESOLUTION);
-    }
-    Halt::Column(k, g.time)
+    Ok(Halt::Column(k, given.setting.time))
 }
 
-pub fn next_column(g: Setting, state: &[f64], work: &mut [f64], k: usize) -> Halt
-    requires { Sizes g (length state.now) (length work.old) × (k ≤ g.n) }
-    ensures { (t : Tableau) (m : Marks) (p : List ℕ) → halt_stop result (scratch m work.new p)
-        ≡ next_column (given g t state.now) k (scratch m work.old p) }
+#[tactic(auto, unfolding(attempts::specs::Attempt::next_column, attempts::specs::Attempt::choose))]
+pub fn next_column(given: &Given, work: &mut Work, k: usize) -> Result<Halt, Refusal>
+    requires { Sizes given.now work.old × (k ≤ given.now.setting.n) }
+    ensures { Halts result work.old work.new (next_column (given_by given.now) k) }
 {
-    if k == g.n {
-        return jacobian_done(g, work);
+    if k == given.setting.n {
+        jacobian_done(given, work)
+    } else {
+        open_column(given, work, k)
     }
-    open_column(g, state, work, k)
 }

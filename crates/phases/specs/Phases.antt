@@ -1,11 +1,14 @@
 -- What a call sets in the record: as a making and a reset leave it, as an attempt opens, the caches after an accept; and what an open attempt reads of
--- it (the scope paper, From the entry: attempt_to). Definitions only.
-use Rattle.std.specs.Prelude.{Bool, false, ◌&&◌, Float}
+-- it. Definitions only.
+use Rattle.std.specs.Prelude.{Bool, false, ◌&&◌, Float, Result, Ok, Err}
 use Rattle.std.specs.Float.Ieee.{eq}
 use Rattle.float.specs.Operators.{◌⊕◌, ◌⊖◌, 𝟎}
 use Rattle.attempts.specs.declared.Setting.{Setting}
 use Rattle.attempts.specs.declared.Memo.{Memo}
-use Rattle.attempts.specs.Marks.{blank, with_caches}
+use Rattle.attempts.specs.declared.Halt.{Halt}
+use Rattle.attempts.specs.declared.Halt.TheVariants.{Derivative, Jacobian, TimePartial, FirstProbe, SecondProbe, Column, Stage, Shows}
+use Rattle.attempts.specs.Marks.{blank, with_caches, with_probes, with_error_shown, with_request_time}
+use Rattle.stepping.specs.declared.Refusal.{Refusal}
 use Rattle.refusals.specs.declared.Fixed.{Fixed}
 use Rattle.refusals.specs.declared.Progress.{Progress}
 
@@ -56,3 +59,15 @@ unfoldable pub memo_accepted : Progress → Memo
 memo_accepted x =
     let same = eq x.step 𝟎 in
     with_caches (same && x.memo.derivative_valid) (same && x.memo.differentiation_valid) x.memo
+
+-- what is noted where an open attempt halts: the time of a request, both times where there are two probes, and whether the view has an error
+unfoldable pub noted : Result Halt Refusal → Memo → Memo
+noted (Ok (Derivative time)) m = with_request_time time m
+noted (Ok (Jacobian time)) m = with_request_time time m
+noted (Ok (TimePartial time)) m = with_request_time time m
+noted (Ok (FirstProbe first second)) m = with_request_time first (with_probes first second m)
+noted (Ok (SecondProbe time)) m = with_request_time time m
+noted (Ok (Column k time)) m = with_request_time time m
+noted (Ok (Stage i time)) m = with_request_time time m
+noted (Ok (Shows error)) m = with_error_shown error m
+noted (Err refusal) m = m

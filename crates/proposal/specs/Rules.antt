@@ -2,12 +2,14 @@
 -- Wanner, Solving Ordinary Differential Equations I, II.4, with PI and PID control as in Hairer and Wanner II, IV.2, and Gustafsson). The factor starts
 -- from the product of the safety factor and the powers of the errors, or from a limit where the error is 0 or infinite; then each rule takes the
 -- number that the one before it left: lower factor, upper factor, the three caps, minimum step, maximum step. Definitions only.
-use Rattle.std.specs.Prelude.{Bool, false, not, ◌&&◌, ◌||◌, cond, ltb, Float}
+use Rattle.std.specs.Prelude.{Bool, true, false, not, ◌&&◌, ◌||◌, cond, ltb, Float, Option, None, Some}
 use Rattle.std.specs.Float.{inf}
 use Rattle.std.specs.Float.Ieee.{lt, le, eq}
 use Rattle.float.specs.Operators.{◌⊗◌, 𝟎, 𝟏}
 use Rattle.float.specs.Methods.{abs, min_num, signum}
 use Rattle.settings.specs.declared.ControllerConfig.{ControllerConfig}
+use Rattle.settings.specs.declared.MinimumStepPolicy.{MinimumStepPolicy}
+use Rattle.settings.specs.declared.MinimumStepPolicy.TheVariants.{Error, ForceAccept}
 use Rattle.settings.specs.declared.ControllerState.{ControllerState}
 use Rattle.proposal.specs.declared.StepDecision.{StepDecision}
 
@@ -21,9 +23,13 @@ within_tolerance c err = cond c.accept_equal (le err 𝟏) (lt err 𝟏)
 unfoldable pub at_minimum : ControllerConfig → Float → Bool
 at_minimum c h = le (abs h) c.minimum_step
 
+unfoldable pub forces : MinimumStepPolicy → Bool
+forces Error = false
+forces ForceAccept = true
+
 -- accepted only because no shorter step is allowed, where the settings ask for that
 unfoldable pub is_forced : ControllerConfig → Float → Float → Bool
-is_forced c h err = not (within_tolerance c err) && (at_minimum c h && c.force_accept)
+is_forced c h err = not (within_tolerance c err) && (at_minimum c h && forces c.minimum_step_policy)
 
 unfoldable pub is_accepted : ControllerConfig → Float → Float → Bool
 is_accepted c h err = within_tolerance c err || is_forced c h err
@@ -51,13 +57,14 @@ upper_factor c x = at_most c.maximum_factor x
 unfoldable pub rejection_cap : ControllerConfig → Bool → Float → Float
 rejection_cap c accepted x = cond accepted x (min_num x c.rejection_maximum)
 
--- of a step that is rejected again, where there is such a cap
+-- where there is a cap
+unfoldable pub capped : Float → Option Float → Float
+capped x None = x
+capped x (Some cap) = min_num x cap
+
+-- of a step that is rejected again
 unfoldable pub repeated_cap : ControllerConfig → ControllerState → Bool → Float → Float
-repeated_cap c s accepted x =
-    cond accepted x
-    (cond (ltb 0 s.consecutive_rejections)
-    (cond c.has_repeated_rejection_maximum (min_num x c.repeated_rejection_maximum) x)
-    x)
+repeated_cap c s accepted x = cond accepted x (cond (ltb 0 s.consecutive_rejections) (capped x c.repeated_rejection_maximum) x)
 
 -- of a step that is accepted after a rejection
 unfoldable pub cap_after_rejection : ControllerConfig → ControllerState → Bool → Float → Float

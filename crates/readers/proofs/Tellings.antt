@@ -8,30 +8,36 @@ use lib.Dec.{eqb}
 use lib.Ieee.{Float, eq}
 use lib.ListN.{length, take}
 use lib.Seq.{take-take}
-use borrow.Author.Tests.{eq-eqb, ne_eqb, le-leb, ltb-true, not-false}
+use borrow.Author.Tests.{eq-eqb, ne_eqb, ltb-true, not-false}
+use Rattle.std.specs.Prelude.{Result, Ok, Err, ⊤}
+use Rattle.std.proofs.Math.Option.{none, some}
 use Rattle.float.specs.Operators.{𝟎}
-use Rattle.float.proofs.Cases.{by, yes, no, never, or_left}
+use Rattle.float.proofs.Cases.{by, or_left}
 use Rattle.vector.specs.Parts.{part}
 use Rattle.vector.proofs.Matrices.{row_inside}
-use Rattle.stepping.specs.Refusals.{dimension, Test, ◌when◌, first_of}
-use Rattle.stepping.proofs.Refusals.{here, later, none, passed, held, first_refused, is_refused}
+use Rattle.stepping.specs.declared.Refusal.{Refusal}
+use Rattle.stepping.specs.declared.Refusal.TheVariants.{Dimension}
+use Rattle.stepping.specs.Refusals.{Test, ◌when◌, first_of}
+use Rattle.stepping.proofs.Refusals.{here, holds_later, later, passed, first_refused, all_passed, is_refused}
+use Rattle.stepping.proofs.Refusals as laws
 use Rattle.stages.specs.Layout.{needed_work, stages_at, stage_at, rhs_stages_at, rhs_stage_at}
 use Rattle.attempts.specs.declared.Ask.{Ask}
+use Rattle.attempts.specs.declared.Ask.TheVariants as ask
 use Rattle.rosenbrock.specs.declared.RosenbrockStepper.{RosenbrockStepper}
-use Rattle.refusals.specs.Requests.{is_open, ask_of}
+use Rattle.refusals.specs.Requests.{ask_of}
 use Rattle.refusals.specs.Answers.{Lent, lending, Answer, derivative, vector, request, told, kind_of, state_asked, request_of, shown_part}
-use Rattle.refusals.specs.Tests.{fit_tests, open_test, candidate_test, request_test, lent_tests}
+use Rattle.refusals.specs.Tests.{fit_tests, open_test, candidate_test, lent_tests}
 use Rattle.rosenbrock.specs.Calls.{Out, refusal, guarded}
-use Rattle.rosenbrock.specs.Readers.{Query, the_request, no_stage, query_tests, reply, answered, read_of}
+use Rattle.rosenbrock.specs.Readers.{Query, the_request, no_stage, query_tests, optional, reply, answered, read_of}
 use Rattle.rosenbrock.specs.Stepper.{read, called, needed, trimmed, result, stepped}
 use Rattle.rosenbrock.specs.Outcomes.{system_of}
 use Rattle.rosenbrock.proofs.Guards.{guarded_passed}
-use Rattle.refusals.proofs.Fitting.{Shape, fits_passed}
+use Rattle.refusals.proofs.Fitting.{Shape}
 use Rattle.rosenbrock.proofs.Memory.{cut}
-use Rattle.refusals.proofs.Tested.{fitted, vectors_in, asks_stage}
+use Rattle.refusals.proofs.Tested.{fitted, vectors_in}
 use Rattle.readers.specs.declared.Told.{Told}
-use Rattle.readers.specs.declared.Told.TheVariants.{Part, Refused}
-use Rattle.readers.specs.Telling.{kind_by, tells, asked_by}
+use Rattle.readers.specs.declared.Told.TheVariants.{Part, Absent}
+use Rattle.readers.specs.Telling.{kind_by, reply_of, tells, asked_by}
 
 -- a part of the needed work is that of the work
 pub part_cut : {A : Type 0} (at n k : ℕ) (w : List A) → at + n ≤ k → part at n (take k w) ≡ part at n w
@@ -40,21 +46,12 @@ part_cut (suc at) n zero w h = absurd (omega arith)
 part_cut (suc at) n (suc k) [] h = refl
 part_cut (suc at) n (suc k) (x ∷ w) h = part_cut at n k w (omega arith)
 
--- four tests, then others
-four_passed : (a b c d : Bool) (rest : List Test) → first_of ((1 when a) ∷ (1 when b) ∷ (18 when c) ∷ (15 when d) ∷ []) ≡ 0
-    → first_of ((1 when a) ∷ (1 when b) ∷ (18 when c) ∷ (15 when d) ∷ rest) ≡ first_of rest
-four_passed a b c d rest h =
-    let t₁ = passed 0 a _ h in
-    let t₂ = passed 0 b _ t₁.1 in
-    let t₃ = passed 17 c _ t₂.1 in
-    later 1 _ t₁.0 (later 1 _ t₂.0 (later 18 _ t₃.0 (later 15 rest (passed 14 d [] t₃.1).0 refl)))
-
-three_passed : (a b c : Bool) (rest : List Test) → first_of ((1 when a) ∷ (1 when b) ∷ (18 when c) ∷ []) ≡ 0
-    → first_of ((1 when a) ∷ (1 when b) ∷ (18 when c) ∷ rest) ≡ first_of rest
-three_passed a b c rest h =
-    let t₁ = passed 0 a _ h in
-    let t₂ = passed 0 b _ t₁.1 in
-    later 1 _ t₁.0 (later 1 _ t₂.0 (later 18 rest (passed 17 c [] t₂.1).0 refl))
+-- where all tests pass the last ones do
+all_told : (xs ys : List Test) → first_of (xs ++ ys) ≡ Ok tt → first_of ys ≡ Ok tt
+unfolding first_of
+all_told [] ys e = e
+all_told ((r when true) ∷ xs) ys e = absurd cc
+all_told ((r when false) ∷ xs) ys e = all_told xs ys e
 
 -- the places of the matrices in the needed work
 module _ (n s : ℕ) where
@@ -98,106 +95,96 @@ module _ (y : RosenbrockStepper) (state work : List Float) (pivots : List ℕ) w
   abbrev lent : List Test
   lent = lent_tests y.fixed y.progress (length state) (length work) (length pivots)
 
-  module _ (q : Query) {k : ℕ} (e : k ≡ first_of (lent ++ query_tests q y.fixed y.progress)) where
+  module _ (q : Query) {k : Result ⊤ Refusal} (e : k ≡ first_of (lent ++ query_tests q y.fixed y.progress)) where
     tested : k ≡ first_of (fit_tests y.fixed y.progress cut_m ++ query_tests q y.fixed y.progress)
     tested = e ∙ cut y.fixed y.progress state work pivots _
 
-    pub read_refused : (k ≡ 0 → ⊥) → tells (Refused k) m ≡ answer q
+    pub read_refused : {r : Refusal} → k ≡ Err r → tells (Err r) m ≡ answer q
     unfolding stepped result called read_of guarded refusal tells
-    read_refused h = ap (λ (o : Out). o.answer) (is_refused (refusal y.progress cut_m) _ (sym tested) h)
+    read_refused h = ap (λ (o : Out). o.answer) (is_refused (refusal y.progress cut_m) _ (sym tested ∙ h))
 
-    module _ (z : k ≡ 0) where
-      pub read_told : {a : Answer} → a ≡ told (reply q y.fixed y.progress cut_m) → a ≡ answer q
-      unfolding stepped result called read_of answered
-      read_told h = h ∙ ap (λ (o : Out). o.answer) (sym (guarded_passed _ y.progress cut_m _ (sym tested ∙ z)))
+    module _ (z : k ≡ Ok tt) where
+      pub read_told : (t : Told) → reply_of t m ≡ reply q y.fixed y.progress cut_m → tells (Ok t) m ≡ answer q
+      unfolding stepped result called read_of answered tells
+      read_told t h = ap told h ∙ ap (λ (o : Out). o.answer) (sym (guarded_passed _ y.progress cut_m _ (sym tested ∙ z)))
 
       pub read_shape : Shape y.fixed.n y.fixed.s (length state) (min need (length work)) (length pivots)
       read_shape = fitted y.fixed y.progress (length state) (length work) (length pivots) _ (sym e ∙ z)
 
-      pub read_part : (at count : ℕ) → at + count ≤ need → reply q y.fixed y.progress cut_m ≡ vector (part at count cut_m.work) → tells (Part at count) m ≡ answer q
-      unfolding tells trimmed needed
-      read_part at count h r = read_told (ap (λ (l : List Float). told (vector l)) (sym (part_cut at count need work h)) ∙ ap told (sym r))
+      pub read_part : (at count : ℕ) → at + count ≤ need → reply q y.fixed y.progress cut_m ≡ vector (part at count cut_m.work) → tells (Ok (Part at count)) m ≡ answer q
+      unfolding reply_of trimmed needed
+      read_part at count h r = read_told (Part at count) (ap (λ (l : List Float). vector l) (sym (part_cut at count need work h)) ∙ sym r)
 
-      pub read_shown : (at count : ℕ) {r : Told} {a c : ℕ} → a ≡ at → c ≡ count → r ≡ cond (eq y.progress.step 𝟎) (Part 0 0) (Part a c) → at + count ≤ need
-          → reply q y.fixed y.progress cut_m ≡ vector (shown_part at count y.progress cut_m) → tells r m ≡ answer q
-      unfolding shown_part tells
-      read_shown at count {r} {a} {c} p v g h u =
+      pub read_shown : (at count : ℕ) {t : Told} {a c : ℕ} → a ≡ at → c ≡ count → t ≡ cond (eq y.progress.step 𝟎) (Part 0 0) (Part a c) → at + count ≤ need
+          → reply q y.fixed y.progress cut_m ≡ vector (shown_part at count y.progress cut_m) → tells (Ok t) m ≡ answer q
+      unfolding shown_part reply_of
+      read_shown at count {t} {a} {c} p v g h u =
           by (eq y.progress.step 𝟎)
           (λ (b : eq y.progress.step 𝟎 ≡ true).
-          let g' : r ≡ Part 0 0 = simp b at g in
+          let g' : t ≡ Part 0 0 = simp b at g in
           let u' : reply q y.fixed y.progress cut_m ≡ vector [] = simp b at u in
-          ap (λ (t : Told). tells t m) g' ∙ read_told (ap told (sym u')))
+          ap (λ (x : Told). tells (Ok x) m) g' ∙ read_told (Part 0 0) (sym u'))
           (λ (b : eq y.progress.step 𝟎 ≡ false).
-          let g' : r ≡ Part a c = simp b at g in
+          let g' : t ≡ Part a c = simp b at g in
           let u' : reply q y.fixed y.progress cut_m ≡ vector (part at count cut_m.work) = simp b at u in
-          ap (λ (t : Told). tells t m) g' ∙ (λ i. tells (Part (p i) (v i)) m) ∙ read_part at count h u')
+          ap (λ (x : Told). tells (Ok x) m) g' ∙ (λ i. tells (Ok (Part (p i) (v i))) m) ∙ read_part at count h u')
+
+      pub read_cached : (at count : ℕ) (valid : Bool) {t : Told} → t ≡ cond valid (Part at count) Absent → at + count ≤ need
+          → reply q y.fixed y.progress cut_m ≡ optional (cond valid (some (part at count cut_m.work)) none) → tells (Ok t) m ≡ answer q
+      unfolding optional reply_of
+      read_cached at count true g h u = ap (λ (x : Told). tells (Ok x) m) g ∙ read_part at count h u
+      read_cached at count false g h u = ap (λ (x : Told). tells (Ok x) m) g ∙ read_told Absent (sym u)
 
   -- ---- the request
 
-  asked_tells : (asked stage : ℕ) (time : Float) → is_open asked ≡ true
-      → tells (asked_by n asked time) m ≡ told (request (record { kind = kind_of (ask_of asked stage); time = time; state = state_asked y.fixed cut_m (ask_of asked stage) }))
-  unfolding tells asked_by kind_by kind_of state_asked ask_of trimmed needed is_open
-  asked_tells zero stage time o = never o refl
-  asked_tells (suc zero) stage time o = never o refl
-  asked_tells (suc (suc zero)) stage time o = refl
-  asked_tells (suc (suc (suc zero))) stage time o = refl
-  asked_tells (suc (suc (suc (suc zero)))) stage time o = refl
-  asked_tells (suc (suc (suc (suc (suc zero))))) stage time o = refl
-  asked_tells (suc (suc (suc (suc (suc (suc zero)))))) stage time o = refl
-  asked_tells (suc (suc (suc (suc (suc (suc (suc zero))))))) stage time o =
-      ap (λ (l : List Float). told (request (record { kind = derivative; time = time; state = l })))
+  asked_reply : (a : Ask) (time : Float) → reply_of (asked_by n a time) m ≡ request (record { kind = kind_of a; time = time; state = state_asked y.fixed cut_m a })
+  unfolding reply_of asked_by kind_by kind_of state_asked trimmed needed
+  asked_reply ask.Derivative time = refl
+  asked_reply ask.Jacobian time = refl
+  asked_reply ask.TimePartial time = refl
+  asked_reply ask.FirstProbe time = refl
+  asked_reply ask.SecondProbe time = refl
+  asked_reply (ask.Column k) time =
+      ap (λ (l : List Float). request (record { kind = derivative; time = time; state = l }))
       (sym (part_cut (5 * n) n need work (omega (arith, vectors_in n y.fixed.s))))
-  asked_tells (suc (suc (suc (suc (suc (suc (suc (suc k)))))))) stage time o =
-      let r = suc (suc (suc (suc (suc (suc (suc (suc k))))))) in
-      let l : 8 ≤ r = omega arith in
-      ap (λ (t : Told). tells t m)
-      (sym (no _ (ne_eqb r 3 (λ z. omega arith)) (no _ (ne_eqb r 4 (λ z. omega arith)) (no _ (ne_eqb r 7 (λ z. omega arith)) (yes _ (le-leb 8 r l) refl)))))
-      ∙ ap (λ (l : List Float). told (request (record { kind = derivative; time = time; state = l }))) (sym (part_cut (2 * n) n need work (omega (arith, vectors_in n y.fixed.s))))
-      ∙ ap (λ (a : Ask). told (request (record { kind = kind_of a; time = time; state = state_asked y.fixed cut_m a }))) (asks_stage r stage l)
+  asked_reply (ask.Stage i) time =
+      ap (λ (l : List Float). request (record { kind = derivative; time = time; state = l }))
+      (sym (part_cut (2 * n) n need work (omega (arith, vectors_in n y.fixed.s))))
 
-  module _ {k : ℕ} (e : k ≡ first_of (lent ++ (request_test y.progress ∷ []))) (z : k ≡ 0) where
-    pub read_asked : {r : Told} → r ≡ asked_by n y.progress.request y.progress.memo.request_time → tells r m ≡ answer the_request
-    unfolding query_tests reply request_of
-    read_asked h =
-        let t = fits_passed y.fixed y.progress cut_m (request_test y.progress ∷ []) (sym (tested the_request e) ∙ z) in
-        let o = (held 16 (is_open y.progress.request) [] t.1).0 in
-        read_told the_request e z (ap (λ (t : Told). tells t m) h ∙ asked_tells y.progress.request y.progress.stage _ o)
+  module _ {k : Result ⊤ Refusal} (e : k ≡ first_of (lent ++ query_tests the_request y.fixed y.progress)) (z : k ≡ Ok tt) where
+    pub read_asked : {a : Ask} {t : Told} → ask_of y.progress.request y.progress.stage ≡ a → t ≡ asked_by n a y.progress.memo.request_time → tells (Ok t) m ≡ answer the_request
+    unfolding reply request_of
+    read_asked {a} q h =
+        ap (λ (x : Told). tells (Ok x) m) (h ∙ ap (λ (b : Ask). asked_by n b y.progress.memo.request_time) (sym q))
+        ∙ read_told the_request e z (asked_by n (ask_of y.progress.request y.progress.stage) y.progress.memo.request_time) (asked_reply (ask_of y.progress.request y.progress.stage) y.progress.memo.request_time)
 
   -- ---- a stage by its number
 
-  module _ (i : ℕ) {k : ℕ} (e : k ≡ first_of (lent ++ (open_test y.progress ∷ candidate_test y.progress ∷ []))) where
-    abbrev index_tests : List Test
-    index_tests = lent ++ (open_test y.progress ∷ candidate_test y.progress ∷ (dimension when no_stage y.fixed y.progress i) ∷ [])
-
-    pub not_a_step : (k ≡ 0 → ⊥) → k ≡ first_of index_tests
-    not_a_step h = sym (first_refused (lent ++ (open_test y.progress ∷ candidate_test y.progress ∷ [])) ((dimension when no_stage y.fixed y.progress i) ∷ []) (sym e) h)
-
-    module _ (z : k ≡ 0) {j : ℕ} (f : j ≡ first_of ((dimension when no_stage y.fixed y.progress i) ∷ [])) where
-      pub then_the_index : j ≡ first_of index_tests
-      then_the_index = f ∙ sym (four_passed _ _ _ _ _ (sym e ∙ z))
-
-      pub is_stage : j ≡ 0 → i < y.fixed.s
-      unfolding no_stage
-      is_stage h = ltb-true i y.fixed.s (not-false _ (or_left _ _ (passed 0 _ [] (sym f ∙ h)).0))
+  module _ (i : ℕ) {k : Result ⊤ Refusal} (e : k ≡ first_of (lent ++ (open_test y.progress ∷ candidate_test y.progress ∷ (Dimension when no_stage y.fixed y.progress i) ∷ []))) where
+    pub is_stage : k ≡ Ok tt → i < y.fixed.s
+    unfolding no_stage
+    is_stage z =
+        let t = all_told (lent ++ (open_test y.progress ∷ candidate_test y.progress ∷ [])) ((Dimension when no_stage y.fixed y.progress i) ∷ []) (sym e ∙ z) in
+        ltb-true i y.fixed.s (not-false _ (or_left _ _ (passed Dimension _ [] t).0))
 
   -- ---- a copy
 
-  module _ (count : ℕ) {k : ℕ} (e : k ≡ first_of (lent ++ (open_test y.progress ∷ []))) where
+  module _ (count : ℕ) {k : Result ⊤ Refusal} (e : k ≡ first_of (lent ++ (open_test y.progress ∷ []))) where
     abbrev copy_tests : List Test
-    copy_tests = lent ++ (open_test y.progress ∷ (dimension when not (eqb count n)) ∷ [])
+    copy_tests = lent ++ (open_test y.progress ∷ (Dimension when not (eqb count n)) ∷ [])
 
-    pub not_copied : (k ≡ 0 → ⊥) → k ≡ first_of copy_tests
-    not_copied h = sym (first_refused (lent ++ (open_test y.progress ∷ [])) ((dimension when not (eqb count n)) ∷ []) (sym e) h)
+    pub not_copied : {r : Refusal} → k ≡ Err r → first_of copy_tests ≡ Err r
+    not_copied h = first_refused (lent ++ (open_test y.progress ∷ [])) ((Dimension when not (eqb count n)) ∷ []) (sym e ∙ h)
 
-    module _ (z : k ≡ 0) where
-      after_open : first_of copy_tests ≡ first_of ((dimension when not (eqb count n)) ∷ [])
-      after_open = three_passed _ _ _ _ (sym e ∙ z)
+    module _ (z : k ≡ Ok tt) where
+      after_open : first_of copy_tests ≡ first_of ((Dimension when not (eqb count n)) ∷ [])
+      after_open = all_passed (lent ++ (open_test y.progress ∷ [])) ((Dimension when not (eqb count n)) ∷ []) (sym e ∙ z)
 
-      pub other_length : (count ≡ n → ⊥) → 1 ≡ first_of copy_tests
-      other_length h = sym (after_open ∙ here 1 [] (ap not (ne_eqb count n h)))
+      pub other_length : (count ≡ n → ⊥) → first_of copy_tests ≡ Err Dimension
+      other_length h = after_open ∙ here Dimension [] (ap not (ne_eqb count n h))
 
-      pub its_length : count ≡ n → 0 ≡ first_of copy_tests
-      its_length h = sym (after_open ∙ later 1 [] (ap not (eq-eqb count n h)) none)
+      pub its_length : count ≡ n → first_of copy_tests ≡ Ok tt
+      its_length h = after_open ∙ holds_later Dimension [] (eq-eqb count n h) laws.none
 
       pub as_long : count ≡ n → count ≡ length state
       as_long h = h ∙ sym (fitted y.fixed y.progress (length state) (length work) (length pivots) _ (sym e ∙ z)).of_state

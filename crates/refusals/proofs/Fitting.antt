@@ -9,6 +9,8 @@ use lib.Dec.{eqb, leb}
 use borrow.Author.Tests.{leb-true, eqb-true, le-leb, eq-eqb}
 use Rattle.float.proofs.Cases.{both, and_left, and_right}
 use Rattle.vector.proofs.Parts.{length_part}
+use Rattle.std.specs.Prelude.{Ok}
+use Rattle.stepping.specs.declared.Refusal.TheVariants.{Dimension}
 use Rattle.stepping.specs.Refusals.{Test, first_of}
 use Rattle.stepping.proofs.Refusals.{none, held, holds_later}
 use Rattle.stages.specs.Layout.{needed_work}
@@ -70,11 +72,11 @@ pub record Fits (fx : Fixed) (x : Progress) (m : Lent) : Type 0 where
 
 module _ (fx : Fixed) (x : Progress) (m : Lent) where
   -- the other tests follow
-  pub fits_passed : (rest : List Test) → first_of (fit_tests fx x m ++ rest) ≡ 0 → Fits fx x m × (first_of rest ≡ 0)
+  pub fits_passed : (rest : List Test) → first_of (fit_tests fx x m ++ rest) ≡ Ok tt → Fits fx x m × (first_of rest ≡ Ok tt)
   fits_passed rest e =
-      let t₁ = held 0 _ _ e in
-      let t₂ = held 0 _ _ t₁.1 in
+      let t₁ = held Dimension _ _ e in
+      let t₂ = held Dimension _ _ t₁.1 in
       (record { shape = shape_of _ _ _ _ _ t₁.0; request = t₂.0 }, t₂.1)
 
-  pub fits_tests : Fits fx x m → first_of (fit_tests fx x m) ≡ 0
-  fits_tests h = holds_later 1 _ (shape_fits_lem _ _ _ _ _ h.shape) (holds_later 1 [] h.request none)
+  pub fits_tests : Fits fx x m → first_of (fit_tests fx x m) ≡ Ok tt
+  fits_tests h = holds_later Dimension _ (shape_fits_lem _ _ _ _ _ h.shape) (holds_later Dimension [] h.request none)

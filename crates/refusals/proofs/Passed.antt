@@ -8,6 +8,8 @@ use lib.Dec.{eqb}
 use lib.Ieee.{Float}
 use borrow.Author.Tests.{eqb-true}
 use Rattle.vector.specs.Lists.{all_finite}
+use Rattle.std.specs.Prelude.{Ok}
+use Rattle.stepping.specs.declared.Refusal.TheVariants.{Dimension, NonFinite, UnsupportedTableau, TableauFile, PivotRange, PendingCandidate, NoCandidate, NoRequest, AttemptOpen}
 use Rattle.stepping.specs.Refusals.{Test, first_of}
 use Rattle.stepping.proofs.Refusals.{passed, held}
 use Rattle.tableau.specs.Tableau.{stages_of}
@@ -27,53 +29,53 @@ pub record MakingPassed (file : List ℕ) (m : Lent) : Type 0 where
   pub not_hybrid : eqb (tableau_of file).counts.kind 1 ≡ false
   pub shape : Shape (length m.state) (stages_of (tableau_of file)) (length m.state) (length m.work) (length m.pivots)
 
-pub making_passed : (file : List ℕ) (time : Float) (m : Lent) → first_of (making_tests file time m) ≡ 0 → MakingPassed file m
+pub making_passed : (file : List ℕ) (time : Float) (m : Lent) → first_of (making_tests file time m) ≡ Ok tt → MakingPassed file m
 making_passed file time m e =
     let n = length m.state in
-    let t₁ = held 11 (accepts file) _ e in
-    let t₂ = held 0 (shape_fits n (stages_of (tableau_of file)) n (length m.work) (length m.pivots)) _ t₁.1 in
-    let t₃ = held 1 (all_finite m.state) _ t₂.1 in
-    let t₄ = held 1 (all_finite (time ∷ [])) _ t₃.1 in
-    let t₅ = passed 2 (eqb (tableau_of file).counts.kind 1) [] t₄.1 in
+    let t₁ = held TableauFile (accepts file) _ e in
+    let t₂ = held Dimension (shape_fits n (stages_of (tableau_of file)) n (length m.work) (length m.pivots)) _ t₁.1 in
+    let t₃ = held NonFinite (all_finite m.state) _ t₂.1 in
+    let t₄ = held NonFinite (all_finite (time ∷ [])) _ t₃.1 in
+    let t₅ = passed UnsupportedTableau (eqb (tableau_of file).counts.kind 1) [] t₄.1 in
     record { file_accepted = t₁.0; not_hybrid = t₅.0; shape = shape_of _ _ _ _ _ t₂.0 }
 
 -- ---- the calls
 
 module _ (fx : Fixed) (x : Progress) (m : Lent) where
-  file_passed : (file : List ℕ) (rest : List Test) → first_of (file_tests fx.s file ++ rest) ≡ 0 → first_of rest ≡ 0
+  file_passed : (file : List ℕ) (rest : List Test) → first_of (file_tests fx.s file ++ rest) ≡ Ok tt → first_of rest ≡ Ok tt
   file_passed file rest e =
-      let t₁ = held 11 (accepts file) _ e in
-      let t₂ = passed 2 (eqb (tableau_of file).counts.kind 1) _ t₁.1 in
-      (held 0 (eqb (stages_of (tableau_of file)) fx.s) rest t₂.1).1
+      let t₁ = held TableauFile (accepts file) _ e in
+      let t₂ = passed UnsupportedTableau (eqb (tableau_of file).counts.kind 1) _ t₁.1 in
+      (held Dimension (eqb (stages_of (tableau_of file)) fx.s) rest t₂.1).1
 
   -- supply: an attempt is open, the length is the wanted one, and the pivots are rows where a stage would be solved
-  pub supply_passed : (file : List ℕ) (values : List Float) → first_of (supply_tests fx file values x m) ≡ 0 → is_open x.request ≡ true
-  supply_passed file values e = (held 16 (is_open x.request) _ (file_passed file _ (fits_passed fx x m _ e).1)).0
+  pub supply_passed : (file : List ℕ) (values : List Float) → first_of (supply_tests fx file values x m) ≡ Ok tt → is_open x.request ≡ true
+  supply_passed file values e = (held NoRequest (is_open x.request) _ (file_passed file _ (fits_passed fx x m _ e).1)).0
 
-  pub supply_values : (file : List ℕ) (values : List Float) → first_of (supply_tests fx file values x m) ≡ 0
+  pub supply_values : (file : List ℕ) (values : List Float) → first_of (supply_tests fx file values x m) ≡ Ok tt
       → let a = ask_of x.request x.stage in (length values ≡ wanted fx.n a) × (pivots_unfit fx.n m.pivots a ≡ false)
   supply_values file values e =
       let a = ask_of x.request x.stage in
-      let t₁ = held 16 (is_open x.request) _ (file_passed file _ (fits_passed fx x m _ e).1) in
-      let t₂ = held 0 (eqb (length values) (wanted fx.n a)) _ t₁.1 in
-      (eqb-true (length values) (wanted fx.n a) t₂.0, (passed 12 (pivots_unfit fx.n m.pivots a) [] t₂.1).0)
+      let t₁ = held NoRequest (is_open x.request) _ (file_passed file _ (fits_passed fx x m _ e).1) in
+      let t₂ = held Dimension (eqb (length values) (wanted fx.n a)) _ t₁.1 in
+      (eqb-true (length values) (wanted fx.n a) t₂.0, (passed PivotRange (pivots_unfit fx.n m.pivots a) [] t₂.1).0)
 
   -- accept and reject: a candidate is pending
-  pub decision_passed : first_of (decision_tests fx x m) ≡ 0 → is_pending x.request ≡ true
-  decision_passed e = (held 14 (is_pending x.request) [] (passed 17 (is_open x.request) _ (fits_passed fx x m _ e).1).1).0
+  pub decision_passed : first_of (decision_tests fx x m) ≡ Ok tt → is_pending x.request ≡ true
+  decision_passed e = (held NoCandidate (is_pending x.request) [] (passed AttemptOpen (is_open x.request) _ (fits_passed fx x m _ e).1).1).0
 
   -- inject_derivative: neither
-  pub inject_passed : (derivative : List Float) → first_of (inject_tests fx derivative x m) ≡ 0 → (is_open x.request ≡ false) × (is_pending x.request ≡ false)
+  pub inject_passed : (derivative : List Float) → first_of (inject_tests fx derivative x m) ≡ Ok tt → (is_open x.request ≡ false) × (is_pending x.request ≡ false)
   inject_passed derivative e =
-      let t₁ = passed 17 (is_open x.request) _ (fits_passed fx x m _ e).1 in
-      let t₂ = passed 13 (is_pending x.request) _ t₁.1 in
+      let t₁ = passed AttemptOpen (is_open x.request) _ (fits_passed fx x m _ e).1 in
+      let t₂ = passed PendingCandidate (is_pending x.request) _ t₁.1 in
       (t₁.0, t₂.0)
 
-  pub inject_size : (derivative : List Float) → first_of (inject_tests fx derivative x m) ≡ 0 → length derivative ≡ fx.n
+  pub inject_size : (derivative : List Float) → first_of (inject_tests fx derivative x m) ≡ Ok tt → length derivative ≡ fx.n
   inject_size derivative e =
-      let t₁ = passed 17 (is_open x.request) _ (fits_passed fx x m _ e).1 in
-      let t₂ = passed 13 (is_pending x.request) _ t₁.1 in
-      eqb-true (length derivative) fx.n (held 0 (eqb (length derivative) fx.n) _ t₂.1).0
+      let t₁ = passed AttemptOpen (is_open x.request) _ (fits_passed fx x m _ e).1 in
+      let t₂ = passed PendingCandidate (is_pending x.request) _ t₁.1 in
+      eqb-true (length derivative) fx.n (held Dimension (eqb (length derivative) fx.n) _ t₂.1).0
 
 pub record ResetPassed (fx : Fixed) (m : Lent) (time : Float) (state : List Float) : Type 0 where
   pub shape : LentShape fx m
@@ -81,12 +83,12 @@ pub record ResetPassed (fx : Fixed) (m : Lent) (time : Float) (state : List Floa
   pub finite : all_finite state ≡ true
   pub finite_time : all_finite (time ∷ []) ≡ true
 
-pub reset_passed : (fx : Fixed) (time : Float) (state : List Float) (x : Progress) (m : Lent) → first_of (reset_tests fx time state x m) ≡ 0
+pub reset_passed : (fx : Fixed) (time : Float) (state : List Float) (x : Progress) (m : Lent) → first_of (reset_tests fx time state x m) ≡ Ok tt
     → ResetPassed fx m time state
 reset_passed fx time state x m e =
     let t = fits_passed fx x m _ e in
-    let t₁ = passed 17 (is_open x.request) _ t.1 in
-    let t₂ = held 0 (eqb (length state) fx.n) _ t₁.1 in
-    let t₃ = held 1 (all_finite state) _ t₂.1 in
-    let t₄ = held 1 (all_finite (time ∷ [])) [] t₃.1 in
+    let t₁ = passed AttemptOpen (is_open x.request) _ t.1 in
+    let t₂ = held Dimension (eqb (length state) fx.n) _ t₁.1 in
+    let t₃ = held NonFinite (all_finite state) _ t₂.1 in
+    let t₄ = held NonFinite (all_finite (time ∷ [])) [] t₃.1 in
     record { shape = t.0.shape; size = eqb-true (length state) fx.n t₂.0; finite = t₃.0; finite_time = t₄.0 }

@@ -7,10 +7,9 @@ use borrow.Author.Tests.{lt-ltb, le-ltb, ltb-true, ne_eqb}
 use Rattle.float.proofs.Cases.{no, never, and_no}
 use Rattle.attempts.specs.declared.Ask.{Ask}
 use Rattle.attempts.specs.declared.Ask.TheVariants.{Derivative, Jacobian, TimePartial, FirstProbe, SecondProbe, Column, Stage}
-use Rattle.attempts.specs.declared.Ending.{Ending}
-use Rattle.attempts.specs.declared.Ending.TheVariants.{Asks, Ends, Shows}
+use Rattle.attempts.specs.Attempt.{Ending, Asks, Ends, Shows}
 use Rattle.attempts.proofs.Requests.{AskInRange, EndInRange}
-use Rattle.refusals.specs.Requests.{is_pending, is_open, ask_of, ask_number, ask_stage, request_after, stage_after, request_fits}
+use Rattle.refusals.specs.Requests.{is_pending, is_open, ask_of, ask_number, ask_stage, phase_number, phase_stage, phase_after, request_after, stage_after, request_fits}
 
 pub read_back : (a : Ask) → ask_of (ask_number a) (ask_stage a) ≡ a
 unfolding ask_of ask_number ask_stage
@@ -21,6 +20,19 @@ read_back FirstProbe = refl
 read_back SecondProbe = refl
 read_back (Column k) = refl
 read_back (Stage i) = refl
+
+-- the numbers of what the record waits for where an open attempt stopped
+pub number_after : (e : Ending) → phase_number (phase_after e) ≡ request_after e
+unfolding phase_number phase_after request_after
+number_after (Asks a) = refl
+number_after (Ends r) = refl
+number_after Shows = refl
+
+pub index_after : (e : Ending) → phase_stage (phase_after e) ≡ stage_after e
+unfolding phase_stage phase_after stage_after
+index_after (Asks a) = refl
+index_after (Ends r) = refl
+index_after Shows = refl
 
 -- something is asked: an attempt is open, and no candidate is pending
 pub asked_open : (a : Ask) → is_open (ask_number a) ≡ true

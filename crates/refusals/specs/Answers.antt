@@ -4,11 +4,11 @@ use Rattle.std.proofs.Math.Option.{Option, none, some}
 use Rattle.std.specs.Float.Ieee.{eq}
 use Rattle.float.specs.Operators.{𝟎}
 use Rattle.vector.specs.Parts.{part}
+use Rattle.stepping.specs.declared.Refusal.{Refusal}
 use Rattle.stages.specs.Layout.{candidate_at, error_at, stage_state_at, time_partial_at, probe_state_at, jacobian_at, stages_at, rhs_stages_at}
 use Rattle.attempts.specs.declared.Ask.{Ask}
 use Rattle.attempts.specs.declared.Ask.TheVariants.{Derivative, Jacobian, TimePartial, FirstProbe, SecondProbe, Column, Stage}
-use Rattle.attempts.specs.declared.Ending.{Ending}
-use Rattle.attempts.specs.declared.Ending.TheVariants.{Asks, Ends, Shows}
+use Rattle.attempts.specs.Attempt.{Ending, Asks, Ends, Shows}
 use Rattle.refusals.specs.declared.Fixed.{Fixed}
 use Rattle.refusals.specs.declared.Progress.{Progress}
 
@@ -114,7 +114,7 @@ pub data Reply : Type 0 where
   statistics : Reply
 
 pub data Answer : Type 0 where
-  refused : ℕ → Answer
+  refused : Refusal → Answer
   asked : Request → Answer
   shown : View → Answer
   told : Reply → Answer
@@ -122,5 +122,5 @@ pub data Answer : Type 0 where
 
 unfoldable pub answer_of : Fixed → Progress → Lent → Ending → Answer
 answer_of fx x m (Asks a) = asked (request_of fx x m a)
-answer_of fx x m (Ends k) = refused k
+answer_of fx x m (Ends refusal) = refused refusal
 answer_of fx x m Shows = shown (view_of fx x m)

@@ -2,8 +2,9 @@
 use Rattle.std.specs.Prelude.{ℕ, Bool, cond, ◌&&◌, eqb, leb, ltb}
 use Rattle.attempts.specs.declared.Ask.{Ask}
 use Rattle.attempts.specs.declared.Ask.TheVariants.{Derivative, Jacobian, TimePartial, FirstProbe, SecondProbe, Column, Stage}
-use Rattle.attempts.specs.declared.Ending.{Ending}
-use Rattle.attempts.specs.declared.Ending.TheVariants.{Asks, Ends, Shows}
+use Rattle.attempts.specs.Attempt.{Ending, Asks, Ends, Shows}
+use Rattle.refusals.specs.declared.Phase.{Phase}
+use Rattle.refusals.specs.declared.Phase.TheVariants.{Idle, Pending, Open}
 
 -- a candidate is pending, or an attempt is open
 unfoldable pub is_pending : ℕ → Bool
@@ -41,15 +42,34 @@ ask_stage SecondProbe = 0
 ask_stage (Column k) = k
 ask_stage (Stage i) = i
 
--- what the record says where an open attempt stopped
+-- what the record waits for, and its two numbers
+unfoldable pub phase_of : ℕ → ℕ → Phase
+phase_of request stage = cond (eqb request 0) Idle (cond (eqb request 1) Pending (Open (ask_of request stage)))
+
+unfoldable pub phase_number : Phase → ℕ
+phase_number Idle = 0
+phase_number Pending = 1
+phase_number (Open a) = ask_number a
+
+unfoldable pub phase_stage : Phase → ℕ
+phase_stage Idle = 0
+phase_stage Pending = 0
+phase_stage (Open a) = ask_stage a
+
+-- what the record waits for where an open attempt stopped, and its numbers
+unfoldable pub phase_after : Ending → Phase
+phase_after (Asks a) = Open a
+phase_after (Ends refusal) = Idle
+phase_after Shows = Pending
+
 unfoldable pub request_after : Ending → ℕ
 request_after (Asks a) = ask_number a
-request_after (Ends k) = 0
+request_after (Ends refusal) = 0
 request_after Shows = 1
 
 unfoldable pub stage_after : Ending → ℕ
 stage_after (Asks a) = ask_stage a
-stage_after (Ends k) = 0
+stage_after (Ends refusal) = 0
 stage_after Shows = 0
 
 -- in range: a column below n, a stage below s, and 0 beside any other request

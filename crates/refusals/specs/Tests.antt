@@ -1,7 +1,8 @@
--- The tests of the stepper's calls (the scope paper, Refused because of the input, Refused because of the state). Definitions only.
+-- The tests of the stepper's calls, in their order; a comment gives the number of each test's refusal. Definitions only.
 use Rattle.std.specs.Prelude.{ℕ, min, Bool, false, not, ◌&&◌, List, [], ◌∷◌, ◌++◌, eqb, leb, ltb, length, get_or, Float}
-use Rattle.vector.specs.Lists.{every, all_finite}
-use Rattle.stepping.specs.Refusals.{dimension, non_finite, unsupported_tableau, tableau_file, pivot_range, pending_candidate, no_candidate, no_request, attempt_open, Test, ◌when◌}
+use Rattle.vector.specs.Lists.{every}
+use Rattle.stepping.specs.declared.Refusal.TheVariants.{Dimension, UnsupportedTableau, TableauFile, PivotRange, PendingCandidate, NoCandidate, NoRequest, AttemptOpen}
+use Rattle.stepping.specs.Refusals.{Test, ◌when◌, finite_test}
 use Rattle.stepping.specs.Time.{time_tests}
 use Rattle.tableau.specs.Tableau.{stages_of}
 use Rattle.tableau.specs.File.{tableau_of, accepts}
@@ -22,7 +23,7 @@ shape_fits n s state work pivots =
 -- 1: the numbers of the record and the lengths that are lent with it fit each other
 abbrev pub size_tests : ℕ → ℕ → ℕ → ℕ → ℕ → ℕ → ℕ → List Test
 size_tests n s request stage state work pivots =
-    (dimension when not (shape_fits n s state work pivots)) ∷ (dimension when not (request_fits n s request stage)) ∷ []
+    (Dimension when not (shape_fits n s state work pivots)) ∷ (Dimension when not (request_fits n s request stage)) ∷ []
 
 abbrev pub fit_tests : Fixed → Progress → Lent → List Test
 fit_tests fx x m = size_tests fx.n fx.s x.request x.stage (length m.state) (length m.work) (length m.pivots)
@@ -30,34 +31,30 @@ fit_tests fx x m = size_tests fx.n fx.s x.request x.stage (length m.state) (leng
 -- 12, 3, and 1 for another number of stages
 abbrev pub file_tests : ℕ → List ℕ → List Test
 file_tests s file =
-    (tableau_file when not (accepts file))
-    ∷ (unsupported_tableau when eqb (tableau_of file).counts.kind 1)
-    ∷ (dimension when not (eqb (stages_of (tableau_of file)) s))
+    (TableauFile when not (accepts file))
+    ∷ (UnsupportedTableau when eqb (tableau_of file).counts.kind 1)
+    ∷ (Dimension when not (eqb (stages_of (tableau_of file)) s))
     ∷ []
 
 -- 18
 abbrev pub open_test : Progress → Test
-open_test x = attempt_open when is_open x.request
+open_test x = AttemptOpen when is_open x.request
 
 -- 14
 abbrev pub pending_test : Progress → Test
-pending_test x = pending_candidate when is_pending x.request
+pending_test x = PendingCandidate when is_pending x.request
 
 -- 15
 abbrev pub candidate_test : Progress → Test
-candidate_test x = no_candidate when not (is_pending x.request)
+candidate_test x = NoCandidate when not (is_pending x.request)
 
 -- 17
 abbrev pub request_test : Progress → Test
-request_test x = no_request when not (is_open x.request)
+request_test x = NoRequest when not (is_open x.request)
 
 -- 1: another length than n
 abbrev pub length_test : Fixed → List Float → Test
-length_test fx values = dimension when not (eqb (length values) fx.n)
-
--- 2
-abbrev pub finite_test : List Float → Test
-finite_test values = non_finite when not (all_finite values)
+length_test fx values = Dimension when not (eqb (length values) fx.n)
 
 -- a pivot that is no row, where a stage would be solved
 unfoldable pub pivots_unfit : ℕ → List ℕ → Ask → Bool
@@ -73,18 +70,18 @@ pivots_unfit n pivots (Stage i) = not (every n (λ k. ltb (get_or pivots k 0) n)
 abbrev pub answer_tests : Fixed → Progress → ℕ → List ℕ → List Test
 answer_tests fx x values pivots =
     let a = ask_of x.request x.stage in
-    (dimension when not (eqb values (wanted fx.n a))) ∷ (pivot_range when pivots_unfit fx.n pivots a) ∷ []
+    (Dimension when not (eqb values (wanted fx.n a))) ∷ (PivotRange when pivots_unfit fx.n pivots a) ∷ []
 
 -- ---- each call's, in order
 
 -- making: 12, 1, 2, 3, for a state of n components and the s stages of the file, from the lengths that are lent
 abbrev pub new_tests : List ℕ → Float → List Float → ℕ → ℕ → List Test
 new_tests file time state work pivots =
-    (tableau_file when not (accepts file))
-    ∷ (dimension when not (shape_fits (length state) (stages_of (tableau_of file)) (length state) work pivots))
+    (TableauFile when not (accepts file))
+    ∷ (Dimension when not (shape_fits (length state) (stages_of (tableau_of file)) (length state) work pivots))
     ∷ finite_test state
     ∷ finite_test (time ∷ [])
-    ∷ (unsupported_tableau when eqb (tableau_of file).counts.kind 1)
+    ∷ (UnsupportedTableau when eqb (tableau_of file).counts.kind 1)
     ∷ []
 
 abbrev pub making_tests : List ℕ → Float → Lent → List Test

@@ -7,9 +7,9 @@ use lib.ListN.{length, length-replicate}
 use lib.Ieee.{Float}
 use Rattle.vector.proofs.Stores.{length-puts}
 use Rattle.stepping.specs.Refusals.{Test}
-use Rattle.stepping.specs.declared.Endpoint.{Endpoint}
-use Rattle.stepping.specs.declared.Endpoint.TheVariants.{Step, Refused}
-use Rattle.attempts.specs.declared.Counted.{Counted}
+use Rattle.std.specs.Prelude.{Result, Ok, Err}
+use Rattle.stepping.specs.declared.Refusal.{Refusal}
+use Rattle.attempts.specs.Marks.{Counted}
 use Rattle.attempts.specs.declared.Ask.{Ask}
 use Rattle.attempts.specs.Marks.{nothing_counted}
 use Rattle.attempts.specs.Attempt.{Stopped, resume}
@@ -28,7 +28,7 @@ pub record OutLong (m : Lent) (o : Out) : Type 0 where
   pub of_pivots : length o.lent.pivots ≡ length m.pivots
 
 module _ (fx : Fixed) (x : Progress) (m : Lent) where
-  refusal_keeps : (k : ℕ) → OutLong m (refusal x m k)
+  refusal_keeps : (k : Refusal) → OutLong m (refusal x m k)
   unfolding refusal
   refusal_keeps k = record { of_work = refl; of_pivots = refl }
 
@@ -79,10 +79,10 @@ attempt_by_keeps : (fx : Fixed) (file : List ℕ) (step : Float) (jacobian parti
 unfolding attempt_by
 attempt_by_keeps fx file step jacobian partial x m = guarded_keeps fx x m _ _ (opened_keeps fx (opening step jacobian partial x) m file)
 
-towards_keeps : (e : Endpoint) (fx : Fixed) (file : List ℕ) (jacobian partial : Bool) (x : Progress) (m : Lent) → OutLong m (towards e fx file jacobian partial x m)
+towards_keeps : (e : Result Float Refusal) (fx : Fixed) (file : List ℕ) (jacobian partial : Bool) (x : Progress) (m : Lent) → OutLong m (towards e fx file jacobian partial x m)
 unfolding towards
-towards_keeps (Step step) fx file jacobian partial x m = attempt_by_keeps fx file step jacobian partial x m
-towards_keeps (Refused k) fx file jacobian partial x m = refusal_keeps fx x m k
+towards_keeps (Ok step) fx file jacobian partial x m = attempt_by_keeps fx file step jacobian partial x m
+towards_keeps (Err k) fx file jacobian partial x m = refusal_keeps fx x m k
 
 pub called_keeps : (fx : Fixed) (c : Call) (x : Progress) (m : Lent) → OutLong m (called fx c x m)
 unfolding called attempt_of attempt_to_of supply_of fail_of accept_of reject_of inject_of reset_of read_of

@@ -2,7 +2,7 @@
 use Prim.Native.Nat.{ℕ}
 use mathlib.Core.Path.{◌≡◌, refl, ◌∙◌}
 use lib.ListN.{take-append-drop}
-use Rattle.attempts.specs.declared.Counted.{Counted}
+use Rattle.attempts.specs.Marks.{Counted}
 use Rattle.attempts.specs.Marks.{nothing_counted}
 use Rattle.refusals.specs.declared.Fixed.{Fixed}
 use Rattle.refusals.specs.declared.Progress.{Progress}

@@ -1,17 +1,16 @@
--- Each call on the record and the needed memory (the scope paper, From the entry: attempt_to). No call reads a counter: it hands back what is to be
--- counted. Definitions only.
-use Rattle.std.specs.Prelude.{ℕ, Bool, true, false, List, length, replicate, Float}
+-- Each call on the record and the needed memory. No call reads a counter: it hands back what is to be counted. Definitions only.
+use Rattle.std.specs.Prelude.{ℕ, Bool, true, false, List, length, replicate, Float, Result, Ok, Err}
 use Rattle.float.specs.Operators.{◌⊕◌, 𝟎}
 use Rattle.vector.specs.Lists.{el}
 use Rattle.vector.specs.Parts.{puts}
-use Rattle.stepping.specs.Refusals.{host_failure, Test, first_of, unless_refused}
-use Rattle.stepping.specs.declared.Endpoint.{Endpoint}
-use Rattle.stepping.specs.declared.Endpoint.TheVariants.{Step, Refused}
+use Rattle.stepping.specs.declared.Refusal.{Refusal}
+use Rattle.stepping.specs.declared.Refusal.TheVariants.{HostFailure}
+use Rattle.stepping.specs.Refusals.{Test, first_of, unless_refused}
 use Rattle.stepping.specs.Time.{endpoint_step}
 use Rattle.tableau.specs.File.{tableau_of}
 use Rattle.stages.specs.Layout.{current_at}
 use Rattle.attempts.specs.declared.Memo.{Memo}
-use Rattle.attempts.specs.declared.Counted.{Counted}
+use Rattle.attempts.specs.Marks.{Counted}
 use Rattle.attempts.specs.Marks.{with_caches, nothing_counted, one_attempt, one_accepted, one_rejected}
 use Rattle.attempts.specs.Attempt.{Given, given, Scratch, scratch, Stopped, start, resume}
 use Rattle.refusals.specs.declared.Fixed.{Fixed}
@@ -29,8 +28,8 @@ pub record Out : Type 0 where
   pub answer : Answer
 
 -- a refusal that changes nothing
-unfoldable pub refusal : Progress → Lent → ℕ → Out
-refusal x m k = record { progress = x; lent = m; counted = nothing_counted; answer = refused k }
+unfoldable pub refusal : Progress → Lent → Refusal → Out
+refusal x m r = record { progress = x; lent = m; counted = nothing_counted; answer = refused r }
 
 -- the first test that holds refuses; else it goes on
 unfoldable pub guarded : List Test → Progress → Lent → Out → Out
@@ -81,9 +80,9 @@ unfoldable pub attempt_of : Fixed → List ℕ → Float → Bool → Bool → P
 attempt_of fx file step jacobian partial x m = guarded (attempt_tests fx file x m) x m (attempt_by fx file step jacobian partial x m)
 
 -- endpoint_step comes before 14
-unfoldable pub towards : Endpoint → Fixed → List ℕ → Bool → Bool → Progress → Lent → Out
-towards (Step step) fx file jacobian partial x m = attempt_by fx file step jacobian partial x m
-towards (Refused k) fx file jacobian partial x m = refusal x m k
+unfoldable pub towards : Result Float Refusal → Fixed → List ℕ → Bool → Bool → Progress → Lent → Out
+towards (Ok step) fx file jacobian partial x m = attempt_by fx file step jacobian partial x m
+towards (Err r) fx file jacobian partial x m = refusal x m r
 
 unfoldable pub attempt_to_of : Fixed → List ℕ → Float → Float → Bool → Bool → Progress → Lent → Out
 attempt_to_of fx file endpoint proposal jacobian partial x m =
@@ -98,7 +97,7 @@ supply_of fx file values x m =
 
 -- the attempt is closed, and nothing else changes
 unfoldable pub failed : Progress → Lent → Out
-failed x m = record { progress = progress_after x x.memo 0 0; lent = m; counted = nothing_counted; answer = refused host_failure }
+failed x m = record { progress = progress_after x x.memo 0 0; lent = m; counted = nothing_counted; answer = refused HostFailure }
 
 unfoldable pub fail_of : Fixed → Progress → Lent → Out
 fail_of fx x m = guarded (fail_tests fx x m) x m (failed x m)

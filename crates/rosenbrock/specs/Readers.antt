@@ -4,7 +4,8 @@ use Rattle.std.proofs.Math.Option.{Option, none, some}
 use Rattle.std.specs.Float.Ieee.{eq}
 use Rattle.float.specs.Operators.{𝟎}
 use Rattle.vector.specs.Parts.{part}
-use Rattle.stepping.specs.Refusals.{dimension, Test, ◌when◌}
+use Rattle.stepping.specs.declared.Refusal.TheVariants.{Dimension}
+use Rattle.stepping.specs.Refusals.{Test, ◌when◌}
 use Rattle.stages.specs.Layout.{current_at, stage_at, rhs_stage_at}
 use Rattle.attempts.specs.Marks.{nothing_counted}
 use Rattle.refusals.specs.declared.Fixed.{Fixed}
@@ -42,7 +43,7 @@ query_tests the_time fx x = of_record x
 query_tests the_state fx x = of_record x
 query_tests the_derivative fx x = of_record x
 query_tests the_statistics fx x = of_record x
-query_tests (the_copy k) fx x = open_test x ∷ (dimension when not (eqb k fx.n)) ∷ []
+query_tests (the_copy k) fx x = open_test x ∷ (Dimension when not (eqb k fx.n)) ∷ []
 query_tests the_start fx x = of_step x
 query_tests the_end fx x = of_step x
 query_tests the_candidate fx x = of_step x
@@ -51,8 +52,8 @@ query_tests the_stages fx x = of_step x
 query_tests the_rhs_stages fx x = of_step x
 query_tests the_jacobian fx x = of_step x
 query_tests the_time_partial fx x = of_step x
-query_tests (the_stage i) fx x = open_test x ∷ candidate_test x ∷ (dimension when no_stage fx x i) ∷ []
-query_tests (the_rhs_stage i) fx x = open_test x ∷ candidate_test x ∷ (dimension when no_stage fx x i) ∷ []
+query_tests (the_stage i) fx x = open_test x ∷ candidate_test x ∷ (Dimension when no_stage fx x i) ∷ []
+query_tests (the_rhs_stage i) fx x = open_test x ∷ candidate_test x ∷ (Dimension when no_stage fx x i) ∷ []
 
 unfoldable pub optional : Option (List Float) → Reply
 optional none = absent

@@ -1,5 +1,6 @@
 -- A stepper with all that is lent to it, its making, and one call after it. Definitions only.
 use Rattle.std.specs.Prelude.{ℕ, Bool, List, ◌++◌, length, take, drop, Float}
+use Rattle.stepping.specs.declared.Refusal.{Refusal}
 use Rattle.stepping.specs.Refusals.{first_of, unless_refused}
 use Rattle.time_difference.specs.declared.TimeDifferencePolicy.{TimeDifferencePolicy}
 use Rattle.tableau.specs.Tableau.{stages_of}
@@ -86,7 +87,7 @@ stepped c y = next_by y.stepper y.lent (result c y)
 -- ---- the making
 
 pub data Made : Type 0 where
-  not_made : ℕ → Made
+  not_made : Refusal → Made
   made : System → Made
 
 -- n is the length of the state that is lent, and s the file's

@@ -1,6 +1,7 @@
 -- What valid settings say of each number, and that no cap is a zero: so a minimum with a cap is never of two zeros. Assumes nothing.
 use mathlib.Core.Path.{◌≡◌}
-use mathlib.Core.Bool.{Bool, true, false, not, ◌&&◌, ◌||◌, false≢true}
+use mathlib.Core.Bool.{Bool, true, false, ◌&&◌}
+use Rattle.std.specs.Prelude.{Option, None, Some}
 use lib.Ieee.{Float, lt, le, eq}
 use lib.Ieee.Scale.{finite}
 use Rattle.float.specs.Methods.{finite_positive}
@@ -8,7 +9,7 @@ use Rattle.float.specs.Operators.{𝟎, 𝟏}
 use Rattle.float.proofs.Cases.{and_left, and_right, or_right}
 use Rattle.float.proofs.Order.{lt_not_le}
 use Rattle.settings.specs.declared.ControllerConfig.{ControllerConfig}
-use Rattle.settings.specs.Valid.{fraction, valid_exponents, valid_factors, valid_steps, valid_errors, valid_history, valid_limits, valid_settings}
+use Rattle.settings.specs.Valid.{fraction, none_or, valid_exponents, valid_factors, valid_steps, valid_errors, valid_history, valid_limits, valid_settings}
 
 -- a number above 0 is no zero
 pub above_no_zero : (x : Float) → lt 𝟎 x ≡ true → eq x 𝟎 ≡ false
@@ -23,9 +24,10 @@ pub fraction_no_zero : (x : Float) → fraction x ≡ true → eq x 𝟎 ≡ fal
 unfolding fraction
 fraction_no_zero x h = above_no_zero x (and_left (lt 𝟎 x) (le x 𝟏) h)
 
-if_there : (b x : Bool) → (not b || x) ≡ true → b ≡ true → x ≡ true
-if_there true x h e = h
-if_there false x h e = absurd (false≢true e)
+if_there : (test : Float → Bool) (o : Option Float) → none_or test o ≡ true → (x : Float) → o ≡ Some x → test x ≡ true
+unfolding none_or
+if_there test None h x e = cc
+if_there test (Some y) h x e = cc
 
 module _ (c : ControllerConfig) (valid : valid_settings c ≡ true) where
   pub record Ranges : Type 0 where
@@ -35,7 +37,7 @@ module _ (c : ControllerConfig) (valid : valid_settings c ≡ true) where
     pub largest_factor : finite c.maximum_factor ≡ true
     pub rejection : fraction c.rejection_maximum ≡ true
     pub acceptance : finite_positive c.rejected_acceptance_maximum ≡ true
-    pub repeated : c.has_repeated_rejection_maximum ≡ true → fraction c.repeated_rejection_maximum ≡ true
+    pub repeated : (cap : Float) → c.repeated_rejection_maximum ≡ Some cap → fraction cap ≡ true
     pub least_step : le 𝟎 c.minimum_step ≡ true
     pub steps : le c.minimum_step c.maximum_step ≡ true
     pub largest_step : finite_positive c.maximum_step ≡ true
@@ -66,7 +68,7 @@ module _ (c : ControllerConfig) (valid : valid_settings c ≡ true) where
         largest_factor = and_right (le c.minimum_factor c.maximum_factor) _ m;
         rejection = and_left (fraction c.rejection_maximum) _ f₃;
         acceptance = and_left (finite_positive c.rejected_acceptance_maximum) _ f₄;
-        repeated = if_there c.has_repeated_rejection_maximum _ (and_right (finite_positive c.rejected_acceptance_maximum) _ f₄);
+        repeated = if_there fraction c.repeated_rejection_maximum (and_right (finite_positive c.rejected_acceptance_maximum) _ f₄);
         least_step = and_left (le 𝟎 c.minimum_step) _ l;
         steps = and_right (le 𝟎 c.minimum_step) _ l;
         largest_step = and_right (le 𝟎 c.minimum_step && le c.minimum_step c.maximum_step) _ s;

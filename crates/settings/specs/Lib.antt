@@ -1,3 +1,4 @@
 pub mod Constants
 pub mod Valid
+pub mod Answers
 pub mod Presets

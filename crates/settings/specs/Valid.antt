@@ -1,7 +1,7 @@
 -- Which settings of a step size controller are valid. The controller is that of Hairer, Nørsett and Wanner, Solving Ordinary Differential Equations I,
 -- II.4 (automatic step size control: a safety factor, and a least and a largest factor by which the step may change), with the exponents beta of
 -- PI and PID control (Hairer and Wanner II, IV.2; Gustafsson). In two parts: the exponents, and all the rest. Definitions only.
-use Rattle.std.specs.Prelude.{Bool, not, ◌&&◌, ◌||◌, List, Float}
+use Rattle.std.specs.Prelude.{Bool, true, ◌&&◌, List, Float, Option, None, Some}
 use Rattle.std.specs.Float.Ieee.{lt, le}
 use Rattle.std.specs.Float.Ieee.Scale.{finite}
 use Rattle.float.specs.Operators.{𝟎, 𝟏}
@@ -13,11 +13,16 @@ use Rattle.settings.specs.declared.ControllerConfig.{ControllerConfig}
 unfoldable pub fraction : Float → Bool
 fraction x = lt 𝟎 x && le x 𝟏
 
+-- what there is passes the test
+unfoldable pub none_or : (Float → Bool) → Option Float → Bool
+none_or test None = true
+none_or test (Some x) = test x
+
 -- The first exponent is finite and positive, the other two are finite; the exponent for a rejected step, if there is one, is finite and positive.
 unfoldable pub valid_exponents : ControllerConfig → Bool
 valid_exponents c =
     finite_positive (el c.beta 0) && (finite (el c.beta 1) && (finite (el c.beta 2)
-    && (not c.has_rejection_exponent || finite_positive c.rejection_exponent)))
+    && none_or finite_positive c.rejection_exponent))
 
 -- The safety factor is finite and positive. Of the factors by which a step may change, the least is a fraction, and the largest finite and not below
 -- it. The caps: of a rejected step, and of one rejected again, if there is one, a fraction; of a step accepted after a rejection, finite and positive.
@@ -26,7 +31,7 @@ valid_factors c =
     finite_positive c.safety && (fraction c.minimum_factor
     && ((le c.minimum_factor c.maximum_factor && finite c.maximum_factor)
     && (fraction c.rejection_maximum && (finite_positive c.rejected_acceptance_maximum
-    && (not c.has_repeated_rejection_maximum || fraction c.repeated_rejection_maximum)))))
+    && none_or fraction c.repeated_rejection_maximum))))
 
 -- 0 ≤ least step ≤ largest step, which is finite and positive
 unfoldable pub valid_steps : ControllerConfig → Bool

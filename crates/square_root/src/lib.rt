@@ -36,7 +36,8 @@ fn normalise(m: u64, k: u64) -> Normalised
 }
 
 // The root of m within 0.7 %, by a parabola in m's leading digits. How near it is matters only to
-// how soon `sqrt_rem` ends.
+// how soon `sqrt_rem` ends. m is a plain number here and below, with its bound in each clause: a type for
+// it would be made once and taken apart in each step.
 fn estimate(m: u64) -> u64
     requires { m < 2 ^ 54 }
     ensures { IsEstimate result }
@@ -61,7 +62,7 @@ struct RootRem {
 }
 
 // The whole part s of the root of m, and the remainder m - s * s. Two of Heron's steps leave s exact,
-// or a little too large: in a run over random m by 1, for one m in two hundred.
+// or a little too large: in a run over random m by 1, for one m in two hundred. The loop counts no index.
 fn sqrt_rem(m: u64) -> RootRem
     requires { (2 ^ 52 ≤ m) × (m < 2 ^ 54) }
     ensures { IsRootRem m result.s result.r }
@@ -78,7 +79,7 @@ fn sqrt_rem(m: u64) -> RootRem
 fn below(a: u64, b: u64) -> u64
     ensures { IsBelow a b result }
 {
-    if a < b { 1 } else { 0 }
+    u64::from(a < b)
 }
 
 // The whole part of the root of m * 2 ^ 54, from that of m and its remainder, by one division:

@@ -1,6 +1,7 @@
 -- Laws that dependents may cite.
 pub mod Lengths
 pub mod Sums
-pub mod Steps
+pub mod Matrix
 pub mod Writes
 pub mod Agreement
+pub mod Ranges

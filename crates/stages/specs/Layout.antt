@@ -1,4 +1,5 @@
 -- The lent work, for n components and s stages: eight vectors of n doubles, two matrices of n² and two of s rows of n, one after the other. Definitions only.
+use Rattle.std.specs.declared.ops.Range.{Range}
 use Rattle.std.specs.Prelude.{ℕ, ◌+◌, ◌*◌, ◌≤◌, ◌<◌, ◌≡◌, List, length, get_or}
 
 abbrev pub candidate_at : ℕ → ℕ
@@ -50,7 +51,18 @@ rhs_stage_at n s i = 8 * n + 2 * (n * n) + s * n + i * n
 unfoldable pub needed_work : ℕ → ℕ → ℕ
 needed_work n s = 8 * n + 2 * (n * n) + 2 * (s * n)
 
+-- a part of the work: its first place, and the place after its last
+abbrev pub Spans : Range ℕ → ℕ → ℕ → Type 0
+Spans r at n = (r.start ≡ at) × (r.end ≡ at + n)
+
 -- ---- the sizes that the code is run at, which its callers test. Products of sizes are facts of their own.
+
+-- n components and s stages
+pub record Sizes (n s : ℕ) : Type 0 where
+  pub small : n ≤ 32
+  pub square : n * n ≤ 1024
+  pub few : s ≤ 8
+  pub wide : s * n ≤ 256
 
 -- n components and s stages, on a work of that length
 pub record Room (n s len : ℕ) : Type 0 where
@@ -60,11 +72,6 @@ pub record Room (n s len : ℕ) : Type 0 where
   pub few : s ≤ 8
   pub wide : s * n ≤ 256
   pub needed : 8 * n + 2 * (n * n) + 2 * (s * n) ≤ len
-
--- i is one of s stages of n components
-pub record Stage (n s i : ℕ) : Type 0 where
-  pub below : i < s
-  pub inside : i * n + n ≤ s * n
 
 -- n pivots, each a row
 pub record PivotRows (n : ℕ) (p : List ℕ) : Type 0 where

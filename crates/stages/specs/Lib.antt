@@ -1,3 +1,4 @@
 pub mod Method
 pub mod Layout
 pub mod Memory
+pub mod Lent

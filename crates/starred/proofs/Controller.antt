@@ -1,11 +1,9 @@
 -- ★9 and ★10, for all that their lines leave open, and that what they ask for is met by some controller. Assumes nothing.
-use Prim.Native.Nat.{ℕ}
-use native.Mathlib.Omega.{arith}
 use mathlib.Core.Path.{◌≡◌, refl, sym, ap, ◌∙◌}
 use mathlib.Core.Bool.{Bool, true, false, not, ◌&&◌, ◌||◌, cond, false≢true, true≢false}
 use mathlib.Core.List.{[], ◌∷◌}
 use mathlib.Core.Logic.{◌⊎◌, inl, inr}
-use lib.Dec.{eqb, ltb}
+use lib.Dec.{ltb}
 use lib.IntN.{pos}
 use lib.Ieee.{Float, nan, inf, fin, round, of_bits, is_nan, lt, le, eq, ne, mul, neg}
 use lib.Ieee.Scale.{finite}
@@ -14,16 +12,21 @@ use Rattle.float.specs.Constants.{half}
 use Rattle.float.specs.Methods.{abs, min_num, signum, finite_positive}
 use Rattle.float.proofs.Cases.{no, and_no_right, both}
 use Rattle.float.proofs.Order.{lt_not_le, lt_not_gt}
-use Rattle.stepping.specs.Refusals.{configuration, minimum_step, ◌when◌, first_of, unless_refused}
+use Rattle.std.specs.Prelude.{Result, Ok, Err, ⊤, Option, None, Some}
+use Rattle.stepping.specs.declared.Refusal.{Refusal}
+use Rattle.stepping.specs.declared.Refusal.TheVariants as refusal
+use Rattle.stepping.specs.declared.Refusal.TheVariants.{Configuration}
+use Rattle.stepping.specs.Refusals.{◌when◌, first_of, unless_refused}
 use Rattle.stepping.proofs.Refusals.{later, none, is_answered}
 use Rattle.settings.specs.declared.ControllerConfig.{ControllerConfig}
 use Rattle.settings.specs.declared.ControllerState.{ControllerState}
+use Rattle.settings.specs.declared.MinimumStepPolicy.TheVariants.{ForceAccept}
 use Rattle.settings.specs.Constants.{fifth, ten}
-use Rattle.settings.specs.Valid.{fraction, valid_exponents, valid_factors, valid_steps, valid_errors, valid_history, valid_limits, valid_settings}
+use Rattle.settings.specs.Valid.{fraction, none_or, valid_exponents, valid_factors, valid_steps, valid_errors, valid_history, valid_limits, valid_settings}
 use Rattle.proposal.specs.declared.StepDecision.{StepDecision}
-use Rattle.proposal.specs.Rules.{within_tolerance, at_minimum, is_forced, is_accepted, start_factor, at_least, at_most, lower_factor, upper_factor, rejection_cap, repeated_cap, cap_after_rejection, factor, upper_step, limited, next_step, decision}
+use Rattle.proposal.specs.Rules.{within_tolerance, at_minimum, forces, is_forced, is_accepted, start_factor, at_least, at_most, lower_factor, upper_factor, rejection_cap, capped, repeated_cap, cap_after_rejection, factor, upper_step, limited, next_step, decision}
 use Rattle.controller.specs.declared.AdaptiveController.{AdaptiveController}
-use Rattle.controller.specs.declared.Assessment.TheVariants.{Decision, Refused, MinimumStep}
+use Rattle.controller.specs.declared.Assessment.TheVariants.{Decision}
 use Rattle.controller.specs.Assess.{sound, usable, measured, exhausted, stuck, assess_tests, refused, assessment, advanced, controller_of, after, assess}
 use Rattle.controller.specs.Calls.{fresh}
 use Rattle.starred.specs.Table.{five, decided, rejecting, Ninth, Tenth}
@@ -36,7 +39,7 @@ module _ (c : ControllerConfig) (h : Float) (above : lt c.minimum_step (abs h) �
 
   unforced : (err : Float) → is_forced c h err ≡ false
   unfolding is_forced
-  unforced err = and_no_right (not (within_tolerance c err)) (ap (λ (b : Bool). b && c.force_accept) longer)
+  unforced err = and_no_right (not (within_tolerance c err)) (ap (λ (b : Bool). b && forces c.minimum_step_policy) longer)
 
   plainly : (err : Float) → is_accepted c h err ≡ within_tolerance c err
   unfolding is_accepted
@@ -60,14 +63,32 @@ one_within c = go c.accept_equal
     go false = refl
 
 -- a decision is the one that the rules give
-the_decision : (b : Bool) (n : ℕ) (err : Float) (d e : StepDecision) → cond b (Decision d) (refused err n) ≡ Decision e → d ≡ e
+refused_none : (err : Float) (r : Refusal) (d : StepDecision) → refused err r ≡ Decision d → ⊥
 unfolding refused
-the_decision true n err d e h = cc
-the_decision false n err d e h = go (eqb n 16) h
-  where
-    go : (x : Bool) → cond x (MinimumStep err) (Refused n) ≡ Decision e → d ≡ e
-    go true h = let z : ◌≡◌ {A = ℕ} 0 1 = cc in absurd (omega arith)
-    go false h = let z : ◌≡◌ {A = ℕ} 0 1 = cc in absurd (omega arith)
+refused_none err refusal.Dimension d h = cc
+refused_none err refusal.NonFinite d h = cc
+refused_none err refusal.UnsupportedTableau d h = cc
+refused_none err refusal.Direction d h = cc
+refused_none err refusal.TimeResolution d h = cc
+refused_none err refusal.Singular d h = cc
+refused_none err refusal.Configuration d h = cc
+refused_none err refusal.Tolerance d h = cc
+refused_none err refusal.FirstStep d h = cc
+refused_none err refusal.SegmentData d h = cc
+refused_none err refusal.OutsideTimeSpan d h = cc
+refused_none err refusal.TableauFile d h = cc
+refused_none err refusal.PivotRange d h = cc
+refused_none err refusal.PendingCandidate d h = cc
+refused_none err refusal.NoCandidate d h = cc
+refused_none err refusal.MinimumStep d h = cc
+refused_none err refusal.NoRequest d h = cc
+refused_none err refusal.AttemptOpen d h = cc
+refused_none err refusal.HostFailure d h = cc
+
+the_decision : (r : Result ⊤ Refusal) (err : Float) (d e : StepDecision) → unless_refused (refused err) r (Decision d) ≡ Decision e → d ≡ e
+unfolding unless_refused
+the_decision (Ok x) err d e h = cc
+the_decision (Err k) err d e h = absurd (refused_none err k e h)
 
 module _ (k : AdaptiveController) (h p : Float) (above : lt k.config.minimum_step (abs h) ≡ true) where
   abbrev D : StepDecision
@@ -87,10 +108,9 @@ module _ (k : AdaptiveController) (h p : Float) (above : lt k.config.minimum_ste
   decision_9 = λ i. record { accepted = at_one i; forced = unforced k.config h above 𝟏 i; next_step = next }
 
   only_9 : (d : StepDecision) → (assess k h 𝟏 p).answer ≡ Decision d → (d.accepted ≡ equal) × (d.forced ≡ false)
-  unfolding assess assessment unless_refused
+  unfolding assess assessment
   only_9 d e =
-      let n = first_of (assess_tests k h 𝟏 D) in
-      let q = sym (the_decision (eqb n 0) n 𝟏 D d e) ∙ decision_9 in
+      let q = sym (the_decision (first_of (assess_tests k h 𝟏 D)) 𝟏 D d e) ∙ decision_9 in
       (ap (λ (x : StepDecision). x.accepted) q, ap (λ (x : StepDecision). x.forced) q)
 
   one_above_0 : le 𝟎 𝟏 ≡ true
@@ -99,18 +119,18 @@ module _ (k : AdaptiveController) (h p : Float) (above : lt k.config.minimum_ste
 
   -- the first three tests are passed
   tests_9 : sound k ≡ true → usable h ≡ true
-      → first_of (assess_tests k h 𝟏 (decided equal next)) ≡ first_of ((configuration when not (usable next)) ∷ (minimum_step when not equal && le (abs h) (abs next)) ∷ [])
+      → first_of (assess_tests k h 𝟏 (decided equal next)) ≡ first_of ((Configuration when not (usable next)) ∷ (refusal.MinimumStep when not equal && le (abs h) (abs next)) ∷ [])
   unfolding measured stuck
-  tests_9 s u = later 7 _ (ap not s) (later 7 _ (ap not (both u one_above_0)) (later 16 _ (unexhausted k.config h above 𝟏) refl))
+  tests_9 s u = later Configuration _ (ap not s) (later Configuration _ (ap not (both u one_above_0)) (later refusal.MinimumStep _ (unexhausted k.config h above 𝟏) refl))
 
   answers_9 : sound k ≡ true → usable h ≡ true
       → (assess k h 𝟏 p).answer ≡ unless_refused (refused 𝟏)
-      (first_of ((configuration when not (usable next)) ∷ (minimum_step when not equal && le (abs h) (abs next)) ∷ []))
+      (first_of ((Configuration when not (usable next)) ∷ (refusal.MinimumStep when not equal && le (abs h) (abs next)) ∷ []))
       (Decision (decided equal next))
   unfolding assess assessment
   answers_9 s u =
       ap (λ (d : StepDecision). unless_refused (refused 𝟏) (first_of (assess_tests k h 𝟏 d)) (Decision d)) decision_9
-      ∙ ap (λ (n : ℕ). unless_refused (refused 𝟏) n (Decision (decided equal next))) (tests_9 s u)
+      ∙ ap (λ (r : Result ⊤ Refusal). unless_refused (refused 𝟏) r (Decision (decided equal next))) (tests_9 s u)
 
   pub star_9 : Ninth k h p
   star_9 = record { only = only_9; answers = answers_9 }
@@ -193,13 +213,13 @@ unfolding measured usable ne le lt eq of_bits
 infinite_measured = refl
 
 twice : (c : ControllerConfig) (s : ControllerState) → Tenth c → repeated_cap c s false fifth ≡ fifth
-unfolding repeated_cap
-twice c s t = go (ltb 0 s.consecutive_rejections) c.has_repeated_rejection_maximum t.repeated_cap
+unfolding repeated_cap capped
+twice c s t = go (ltb 0 s.consecutive_rejections) c.repeated_rejection_maximum t.repeated_cap
   where
-    go : (x y : Bool) → (y ≡ true → lt fifth c.repeated_rejection_maximum ≡ true) → cond x (cond y (min_num fifth c.repeated_rejection_maximum) fifth) fifth ≡ fifth
-    go true true h = uncapped c.repeated_rejection_maximum (h refl)
-    go true false h = refl
-    go false y h = refl
+    go : (x : Bool) (o : Option Float) → ((cap : Float) → o ≡ Some cap → lt fifth cap ≡ true) → cond x (capped fifth o) fifth ≡ fifth
+    go true None h = refl
+    go true (Some cap) h = uncapped cap (h cap refl)
+    go false o h = refl
 
 once : (c : ControllerConfig) → Tenth c → rejection_cap c false fifth ≡ fifth
 unfolding rejection_cap
@@ -246,7 +266,7 @@ module _ (k : AdaptiveController) (p : Float) (s : sound k ≡ true) (t : Tenth 
   answer_10 =
       ap (λ (d : StepDecision). unless_refused (refused (inf false)) (first_of (assess_tests k 𝟏 (inf false) d)) (Decision d)) decision_10
       ∙ sym (is_answered (refused (inf false))
-      (later 7 _ (ap not s) (later 7 _ (ap not infinite_measured) (later 16 _ (unexhausted k.config 𝟏 above_10 (inf false)) (later 7 _ (ap not fifth-usable) (later 16 [] fifth_shorter none))))) refl)
+      (later Configuration _ (ap not s) (later Configuration _ (ap not infinite_measured) (later refusal.MinimumStep _ (unexhausted k.config 𝟏 above_10 (inf false)) (later Configuration _ (ap not fifth-usable) (later refusal.MinimumStep [] fifth_shorter none))))) refl)
 
   pub star_10 : assess k 𝟏 (inf false) p ≡ rejecting k fifth
   unfolding assess after advanced
@@ -264,30 +284,28 @@ some_config equal =
       rejected_acceptance_maximum = 𝟏;
       minimum_step = 𝟎;
       maximum_step = ten;
-      force_accept = true;
+      minimum_step_policy = ForceAccept;
       initial_error_history = 𝟏 ∷ 𝟏 ∷ [];
       error_history_floor = fifth;
       accept_equal = equal;
-      has_rejection_exponent = false;
-      rejection_exponent = 𝟎;
-      has_repeated_rejection_maximum = false;
-      repeated_rejection_maximum = 𝟎;
+      rejection_exponent = None;
+      repeated_rejection_maximum = None;
     }
 
 abbrev pub some : Bool → AdaptiveController
 some equal = fresh (some_config equal) 𝟏
 
 pub some-sound : (equal : Bool) → sound (some equal) ≡ true
-unfolding sound fresh controller_of valid_settings valid_exponents valid_limits valid_factors valid_steps valid_errors valid_history finite_positive fraction lt le eq of_bits
-some-sound equal = refl
+unfolding sound fresh controller_of valid_settings valid_exponents none_or valid_limits valid_factors valid_steps valid_errors valid_history finite_positive fraction lt le eq of_bits
+some-sound accepts = refl
 
 pub some_tenth : (equal : Bool) → Tenth (some equal).config
 unfolding fresh controller_of lt abs of_bits
 some_tenth equal =
-    record { least_factor = refl; largest_factor = refl; cap = refl; repeated_cap = λ h. absurd (false≢true h); least_step = refl; largest_step = refl }
+    record { least_factor = refl; largest_factor = refl; cap = refl; repeated_cap = λ cap h. cc; least_step = refl; largest_step = refl }
 
 -- error 1 at step 1 with the product 1 / 2
 pub some_ninth : (equal : Bool) → (assess (some equal) 𝟏 𝟏 half).answer ≡ Decision (decided equal half)
-unfolding assess assessment measured usable exhausted stuck sound fresh controller_of unless_refused first_of decision next_step limited factor start_factor at_least at_most rejection_cap repeated_cap cap_after_rejection is_accepted is_forced within_tolerance at_minimum valid_settings valid_exponents valid_limits valid_factors valid_steps valid_errors valid_history finite_positive fraction abs signum is_nan lt le eq ne mul round of_bits
+unfolding assess assessment measured usable exhausted stuck sound fresh controller_of unless_refused first_of decision next_step limited factor start_factor at_least at_most rejection_cap repeated_cap capped cap_after_rejection is_accepted is_forced forces within_tolerance at_minimum valid_settings valid_exponents none_or valid_limits valid_factors valid_steps valid_errors valid_history finite_positive fraction abs signum is_nan lt le eq ne mul round of_bits
 some_ninth true = refl
 some_ninth false = refl

@@ -20,10 +20,11 @@ use Rattle.float.proofs.Order.{not_lt_le}
 use Rattle.float.proofs.Zeros.{negative, zeros_same, abs_plain, above_plain, max_plain, mul_plain}
 use Rattle.vector.specs.Lists.{every, all_finite, el}
 use Rattle.vector.proofs.Lists.{every_at}
+use Rattle.std.specs.Prelude.{Ok, Err, None}
+use Rattle.stepping.specs.declared.Refusal.TheVariants.{NonFinite, Direction}
 use Rattle.stepping.specs.Refusals.{first_of}
 use Rattle.stepping.proofs.Refusals.{passed, held, is_answered}
 use Rattle.time_difference.specs.declared.TimeDifferencePolicy.{TimeDifferencePolicy}
-use Rattle.time_difference.specs.declared.Probes.TheVariants.{One, Refused}
 use Rattle.time_difference.specs.Probes.{adjacent, first_probe, second_probe, missed, placed}
 use Rattle.time_difference.specs.Policy.{default_policy, out_of_range, outside, refusal, endpoint, spacing, probes}
 use Rattle.time_difference.proofs.Choice.{settings}
@@ -74,7 +75,7 @@ told : (b : Bool) → T b → b ≡ true
 told true t = refl
 told false t = absurd t
 
-module _ (p : TimeDifferencePolicy) (fit : refusal p table.zero 2⁻¹⁰⁷⁴ ≡ 0) where
+module _ (p : TimeDifferencePolicy) (fit : refusal p table.zero 2⁻¹⁰⁷⁴ ≡ Ok tt) where
   abbrev part : Float
   part = p.maximum_fraction ⊗ 2⁻¹⁰⁷⁴
 
@@ -84,7 +85,7 @@ module _ (p : TimeDifferencePolicy) (fit : refusal p table.zero 2⁻¹⁰⁷⁴ 
   fraction_finite : finite p.maximum_fraction ≡ true
   unfolding refusal all_finite
   fraction_finite =
-      every_at (λ j. finite (el (table.zero ∷ 2⁻¹⁰⁷⁴ ∷ p.scale ∷ p.relative_step ∷ p.maximum_fraction ∷ []) j)) 5 4 (held 1 _ _ fit).0 (lit< tt)
+      every_at (λ j. finite (el (table.zero ∷ 2⁻¹⁰⁷⁴ ∷ p.scale ∷ p.relative_step ∷ p.maximum_fraction ∷ []) j)) 5 4 (held NonFinite _ _ fit).0 (lit< tt)
 
   fraction_positive : T (positive p.maximum_fraction)
   fraction_positive = positive_of p.maximum_fraction fraction_finite (settings p table.zero 2⁻¹⁰⁷⁴ fit).fraction
@@ -93,7 +94,7 @@ module _ (p : TimeDifferencePolicy) (fit : refusal p table.zero 2⁻¹⁰⁷⁴ 
   fraction_small : le p.maximum_fraction half ≡ true
   unfolding refusal out_of_range
   fraction_small =
-      let right = (passed 3 (out_of_range p 2⁻¹⁰⁷⁴) _ (passed 1 _ _ fit).1).0 in
+      let right = (passed Direction (out_of_range p 2⁻¹⁰⁷⁴) _ (held NonFinite _ _ fit).1).0 in
       let a = or_right (eq 2⁻¹⁰⁷⁴ 𝟎) _ right in
       let b = or_right (le p.scale 𝟎) _ a in
       let c = or_right (le p.relative_step 𝟎) _ b in
@@ -143,21 +144,21 @@ module _ (p : TimeDifferencePolicy) (fit : refusal p table.zero 2⁻¹⁰⁷⁴ 
   unfolding add sub abs
   gap = refl
 
-  one_probe : placed table.zero (signum 2⁻¹⁰⁷⁴) 2⁻¹⁰⁷⁴ 𝟎 ≡ One 2⁻¹⁰⁷⁴
+  one_probe : placed table.zero (signum 2⁻¹⁰⁷⁴) 2⁻¹⁰⁷⁴ 𝟎 ≡ Ok (2⁻¹⁰⁷⁴, None)
   unfolding adjacent first_probe second_probe missed placed signum lt le eq add sub mul of_bits to_bits
   one_probe = refl
 
-  probed : endpoint p.bounds 2⁻¹⁰⁷⁴ ≡ 2⁻¹⁰⁷⁴ → probes p table.zero 2⁻¹⁰⁷⁴ ≡ One 2⁻¹⁰⁷⁴
+  probed : endpoint p.bounds 2⁻¹⁰⁷⁴ ≡ 2⁻¹⁰⁷⁴ → probes p table.zero 2⁻¹⁰⁷⁴ ≡ Ok (2⁻¹⁰⁷⁴, None)
   unfolding probes
   probed uncut =
-      sym (is_answered Refused fit
+      sym (is_answered Err fit
       (sym
       (ap (λ (end : Float). placed table.zero (signum 2⁻¹⁰⁷⁴) end (spacing p 2⁻¹⁰⁷⁴ (abs (end ⊖ table.zero)))) (ap (endpoint p.bounds) reaches ∙ uncut)
       ∙ ap (λ (v : Float). placed table.zero (signum 2⁻¹⁰⁷⁴) 2⁻¹⁰⁷⁴ (spacing p 2⁻¹⁰⁷⁴ v)) gap
       ∙ ap (placed table.zero (signum 2⁻¹⁰⁷⁴) 2⁻¹⁰⁷⁴) spacing_zero
       ∙ one_probe)))
 
-default_fit : refusal default_policy table.zero 2⁻¹⁰⁷⁴ ≡ 0
+default_fit : refusal default_policy table.zero 2⁻¹⁰⁷⁴ ≡ Ok tt
 unfolding refusal default_policy out_of_range outside first_of every all_finite lt le eq ne add of_bits
 default_fit = refl
 

@@ -1,18 +1,16 @@
--- The starred cases of the scope paper ('Tried at the edge'), a row each, in its order and with its words beside it. Each row is a statement about the
--- definition that the call's contract cites, for all that its line leaves open. `fin false m e` is m times 2 to the e. Definitions only.
-use Rattle.std.specs.Prelude.{ℕ, ◌≡◌, Bool, true, false, not, ◌&&◌, List, [], ◌∷◌, pos, negsuc, Float}
+-- Ten cases at the edge, a row each, with its words beside it. Each row is a statement about the definition that the call's contract cites, for all
+-- that its line leaves open. `fin false m e` is m times 2 to the e. Definitions only.
+use Rattle.std.specs.Prelude.{ℕ, ◌≡◌, Bool, true, false, not, ◌&&◌, List, [], ◌∷◌, pos, negsuc, Float, None, Some, Ok, Err}
 use Rattle.std.specs.Float.{fin, inf}
 use Rattle.std.specs.Float.Ieee.{lt, le}
 use Rattle.float.specs.Operators.{𝟎, 𝟏}
 use Rattle.float.specs.Methods.{abs}
-use Rattle.stepping.specs.Refusals.{configuration, minimum_step, ◌when◌, first_of, unless_refused}
-use Rattle.stepping.specs.declared.Endpoint.TheVariants as endpoint
+use Rattle.stepping.specs.declared.Refusal.TheVariants.{Direction, Singular, Configuration, MinimumStep}
+use Rattle.stepping.specs.Refusals.{◌when◌, first_of, unless_refused}
 use Rattle.stepping.specs.Time.{endpoint_step}
-use Rattle.time_difference.specs.declared.Probes.TheVariants.{One}
 use Rattle.time_difference.specs.declared.TimeDifferencePolicy.{TimeDifferencePolicy}
 use Rattle.time_difference.specs.Policy.{default_policy, refusal, probes}
 use Rattle.time_difference.specs.Policy as policy
-use Rattle.linear.specs.declared.Factorization.TheVariants.{Factored, Refused}
 use Rattle.linear.specs.Calls as lu
 use Rattle.dense.specs.Segment.{segment}
 use Rattle.dense.specs.Interpolation as dense
@@ -80,7 +78,7 @@ pub record Ninth (k : AdaptiveController) (h p : Float) : Type 0 where
       → let equal = k.config.accept_equal in
       let next = next_step k.config k.state h 𝟏 p in
       (assess k h 𝟏 p).answer ≡ unless_refused (refused 𝟏)
-      (first_of ((configuration when not (usable next)) ∷ (minimum_step when not equal && le (abs h) (abs next)) ∷ []))
+      (first_of ((Configuration when not (usable next)) ∷ (MinimumStep when not equal && le (abs h) (abs next)) ∷ []))
       (Decision (decided equal next))
 
 -- factors 0.2 to 5, caps above 0.2, steps 0 to 10
@@ -88,7 +86,7 @@ pub record Tenth (c : ControllerConfig) : Type 0 where
   pub least_factor : c.minimum_factor ≡ fifth
   pub largest_factor : c.maximum_factor ≡ five
   pub cap : lt fifth c.rejection_maximum ≡ true
-  pub repeated_cap : c.has_repeated_rejection_maximum ≡ true → lt fifth c.repeated_rejection_maximum ≡ true
+  pub repeated_cap : (cap : Float) → c.repeated_rejection_maximum ≡ Some cap → lt fifth cap ≡ true
   pub least_step : abs c.minimum_step ≡ 𝟎
   pub largest_step : c.maximum_step ≡ ten
 
@@ -96,37 +94,37 @@ pub record Tenth (c : ControllerConfig) : Type 0 where
 
 -- ★1 LU of diag(1, 2⁻⁵¹): 6. Whatever the pivots held: the first step is done, and the second pivot is as it was.
 abbrev pub Star1 : Type 0
-Star1 = (p q : ℕ) → lu.factorize_of 2 (diag one 2⁻⁵¹) (p ∷ q ∷ []) ≡ lu.outcome (Refused 6) (diag one 2⁻⁵¹) (0 ∷ q ∷ [])
+Star1 = (p q : ℕ) → lu.factorize_of 2 (diag one 2⁻⁵¹) (p ∷ q ∷ []) ≡ lu.outcome (Err Singular) (diag one 2⁻⁵¹) (0 ∷ q ∷ [])
 
 -- ★2 of diag(1, 2⁻⁵⁰): accepted.
 abbrev pub Star2 : Type 0
-Star2 = (p q : ℕ) → lu.factorize_of 2 (diag one 2⁻⁵⁰) (p ∷ q ∷ []) ≡ lu.outcome Factored (diag one 2⁻⁵⁰) (0 ∷ 1 ∷ [])
+Star2 = (p q : ℕ) → lu.factorize_of 2 (diag one 2⁻⁵⁰) (p ∷ q ∷ []) ≡ lu.outcome (Ok tt) (diag one 2⁻⁵⁰) (0 ∷ 1 ∷ [])
 
 -- ★3 of the 1 by 1 matrix 2⁻¹⁰⁷⁴: accepted.
 abbrev pub Star3 : Type 0
-Star3 = (p : ℕ) → lu.factorize_of 1 (2⁻¹⁰⁷⁴ ∷ []) (p ∷ []) ≡ lu.outcome Factored (2⁻¹⁰⁷⁴ ∷ []) (0 ∷ [])
+Star3 = (p : ℕ) → lu.factorize_of 1 (2⁻¹⁰⁷⁴ ∷ []) (p ∷ []) ≡ lu.outcome (Ok tt) (2⁻¹⁰⁷⁴ ∷ []) (0 ∷ [])
 
 -- ★4 endpoint_step(0, 1, 2): 1.
 abbrev pub Star4 : Type 0
-Star4 = endpoint_step zero one two ≡ endpoint.Step one
+Star4 = endpoint_step zero one two ≡ Ok one
 
 -- ★5 (0, 1, −1): 4.
 abbrev pub Star5 : Type 0
-Star5 = endpoint_step zero one minus_one ≡ endpoint.Refused 4
+Star5 = endpoint_step zero one minus_one ≡ Err Direction
 
 -- ★6 (0, 0, −1): 0.
 abbrev pub Star6 : Type 0
-Star6 = endpoint_step zero zero minus_one ≡ endpoint.Step zero
+Star6 = endpoint_step zero zero minus_one ≡ Ok zero
 
 -- ★7 probes at time 0, step 2⁻¹⁰⁷⁴: first 2⁻¹⁰⁷⁴, no second. At every policy that is not refused and has no bound within the step, and the default
 -- policy is one.
 abbrev pub Star7 : Type 0
-Star7 = ((p : TimeDifferencePolicy) → refusal p zero 2⁻¹⁰⁷⁴ ≡ 0 → policy.endpoint p.bounds 2⁻¹⁰⁷⁴ ≡ 2⁻¹⁰⁷⁴ → probes p zero 2⁻¹⁰⁷⁴ ≡ One 2⁻¹⁰⁷⁴)
-    × (probes default_policy zero 2⁻¹⁰⁷⁴ ≡ One 2⁻¹⁰⁷⁴)
+Star7 = ((p : TimeDifferencePolicy) → refusal p zero 2⁻¹⁰⁷⁴ ≡ Ok tt → policy.endpoint p.bounds 2⁻¹⁰⁷⁴ ≡ 2⁻¹⁰⁷⁴ → probes p zero 2⁻¹⁰⁷⁴ ≡ Ok (2⁻¹⁰⁷⁴, None))
+    × (probes default_policy zero 2⁻¹⁰⁷⁴ ≡ Ok (2⁻¹⁰⁷⁴, None))
 
 -- ★8 segment 0 to 2, states 1 and 3, corrections 2 and 4, time 1: 3. Whatever the output held.
 abbrev pub Star8 : Type 0
-Star8 = (x : Float) → dense.interpolate (segment zero two (one ∷ []) (three ∷ []) (two ∷ four ∷ []) 2) one (x ∷ []) ≡ dense.outcome 0 (three ∷ [])
+Star8 = (x : Float) → dense.interpolate (segment zero two (one ∷ []) (three ∷ []) (two ∷ four ∷ []) 2) one (x ∷ []) ≡ dense.outcome (Ok tt) (three ∷ [])
 
 -- ★9 error 1, step above the minimum: accepted only with accept_equal. Whatever settings, state, step and product.
 abbrev pub Star9 : Type 0

@@ -1,7 +1,10 @@
 -- The counters of a stepper, and what a call adds to them, each by one at most. Definitions only.
-use Rattle.std.specs.Prelude.{ℕ, Bool, cond}
+use Rattle.std.specs.Prelude.{ℕ, Bool, true, false, cond, Result, Ok, Err}
 use Rattle.float.specs.Counter.{saturating_increment}
-use Rattle.attempts.specs.declared.Counted.{Counted}
+use Rattle.stepping.specs.declared.Refusal.{Refusal}
+use Rattle.attempts.specs.Marks.{Counted}
+use Rattle.attempts.specs.declared.Halt.{Halt}
+use Rattle.attempts.specs.declared.Halt.TheVariants.{Derivative, Jacobian, TimePartial, FirstProbe, SecondProbe, Column, Stage, Shows}
 use Rattle.statistics.specs.declared.StepStatistics.{StepStatistics}
 
 unfoldable pub one_more : Bool → ℕ → ℕ
@@ -30,3 +33,15 @@ no_statistics =
       factorizations = 0;
       linear_solves = 0;
     }
+
+-- the derivative is asked for
+abbrev pub asks_derivative : Result Halt Refusal → Bool
+asks_derivative (Ok (Derivative time)) = true
+asks_derivative (Ok (Jacobian time)) = false
+asks_derivative (Ok (TimePartial time)) = false
+asks_derivative (Ok (FirstProbe first second)) = true
+asks_derivative (Ok (SecondProbe time)) = true
+asks_derivative (Ok (Column k time)) = true
+asks_derivative (Ok (Stage i time)) = true
+asks_derivative (Ok (Shows error)) = false
+asks_derivative (Err refusal) = false

@@ -1,83 +1,91 @@
 -- What the readers' exports hand out, from what the readers told. Assumes nothing.
-use Prim.Native.Nat.{ℕ}
-use mathlib.Core.Path.{◌≡◌, refl, sym, ap, ◌∙◌}
+use mathlib.Core.Path.{◌≡◌, refl, ap, ◌∙◌}
 use mathlib.Core.List.{List}
 use lib.Ieee.{Float}
+use Rattle.std.specs.Prelude.{Result, Ok, Err}
+use Rattle.stepping.specs.declared.Refusal.{Refusal}
+use Rattle.stepping.specs.declared.Refusal.TheVariants.{Dimension, NonFinite, UnsupportedTableau, Direction, TimeResolution, Singular, Configuration, Tolerance, FirstStep, SegmentData, OutsideTimeSpan, TableauFile, PivotRange, PendingCandidate, NoCandidate, MinimumStep, NoRequest, AttemptOpen, HostFailure}
+use Rattle.stepping.specs.Refusals as stepping
+use Rattle.stepping.specs.Refusals.{number_of}
 use Rattle.statistics.specs.declared.StepStatistics.{StepStatistics}
 use Rattle.refusals.specs.Answers.{Lent, Answer}
 use Rattle.readers.specs.declared.Kind.TheVariants.{Derivative, Jacobian, TimePartial}
 use Rattle.readers.specs.declared.Told.{Told}
-use Rattle.readers.specs.declared.Told.TheVariants.{Number, State, Part, Absent, Statistics, AskedAtState, AskedAtPart, Refused}
-use Rattle.readers.specs.Telling.{tells, copied, counters_told}
-use Rattle.stepper_host.specs.declared.ReadingAnswer.{ReadingAnswer}
+use Rattle.readers.specs.declared.Told.TheVariants.{Number, State, Part, Absent, Statistics, AskedAtState, AskedAtPart}
+use Rattle.readers.specs.Telling.{reply_of, tells, copied, counters_told}
 use Rattle.stepper_host.specs.declared.StatisticsAnswer.{StatisticsAnswer}
-use Rattle.stepper_host.specs.Readings.{number_asked, of_told, kind_asked, told_by, HandsOut, refusal_of, counters_of, replied, statistics_handed, copy_handed, copy_as_numbers}
+use Rattle.stepper_host.specs.Readings.{number_asked, of_told, kind_asked, in_order, numbered, told_by, counters_of, of_statistics, replied, statistics_handed, copy_handed, copy_as_numbers}
 
-pub asked_handed : (value : Float) (kind at count : ℕ) {k j : ℕ} → k ≡ j
-    → ◌≡◌ {A = ReadingAnswer} (record { kind = kind; number = 0; asked = k; value = value; at = at; count = count }) (record { kind = kind; number = 0; asked = j; value = value; at = at; count = count })
-asked_handed value kind at count e = λ i. record { kind = kind; number = 0; asked = e i; value = value; at = at; count = count }
+-- each number is one refusal's
+numbered_back : (k : Refusal) → numbered (stepping.number k) ≡ k
+unfolding stepping.number in_order numbered
+numbered_back Dimension = refl
+numbered_back NonFinite = refl
+numbered_back UnsupportedTableau = refl
+numbered_back Direction = refl
+numbered_back TimeResolution = refl
+numbered_back Singular = refl
+numbered_back Configuration = refl
+numbered_back Tolerance = refl
+numbered_back FirstStep = refl
+numbered_back SegmentData = refl
+numbered_back OutsideTimeSpan = refl
+numbered_back TableauFile = refl
+numbered_back PivotRange = refl
+numbered_back PendingCandidate = refl
+numbered_back NoCandidate = refl
+numbered_back MinimumStep = refl
+numbered_back NoRequest = refl
+numbered_back AttemptOpen = refl
+numbered_back HostFailure = refl
+
+-- the counters apart, the numbers tell what they were made from
+pub same_again : (t : Result Told Refusal) → of_told (told_by (of_told t)) ≡ of_told t
+unfolding number_asked of_told kind_asked told_by
+same_again (Err k) = ap (λ (j : Refusal). of_told (Err j)) (numbered_back k)
+same_again (Ok (Number v)) = refl
+same_again (Ok State) = refl
+same_again (Ok (Part at count)) = refl
+same_again (Ok Absent) = refl
+same_again (Ok (Statistics t)) = refl
+same_again (Ok (AskedAtState Derivative time)) = refl
+same_again (Ok (AskedAtState Jacobian time)) = refl
+same_again (Ok (AskedAtState TimePartial time)) = refl
+same_again (Ok (AskedAtPart Derivative time at count)) = refl
+same_again (Ok (AskedAtPart Jacobian time at count)) = refl
+same_again (Ok (AskedAtPart TimePartial time at count)) = refl
 
 module _ (m : Lent) where
-  -- the counters apart, the numbers tell what they were made from
-  back : (t : Told) → tells (told_by (of_told t)) m ≡ tells t m
-  unfolding number_asked of_told kind_asked told_by tells
-  back (Refused k) = refl
-  back (Number v) = refl
-  back State = refl
-  back (Part at count) = refl
-  back Absent = refl
-  back (Statistics t) = refl
-  back (AskedAtState Derivative time) = refl
-  back (AskedAtState Jacobian time) = refl
-  back (AskedAtState TimePartial time) = refl
-  back (AskedAtPart Derivative time at count) = refl
-  back (AskedAtPart Jacobian time at count) = refl
-  back (AskedAtPart TimePartial time at count) = refl
+  pub back : (t : Result Told Refusal) → tells (told_by (of_told t)) m ≡ tells t m
+  unfolding number_asked of_told kind_asked told_by reply_of tells
+  back (Err k) = ap (λ (j : Refusal). tells (Err j) m) (numbered_back k)
+  back (Ok (Number v)) = refl
+  back (Ok State) = refl
+  back (Ok (Part at count)) = refl
+  back (Ok Absent) = refl
+  back (Ok (Statistics t)) = refl
+  back (Ok (AskedAtState Derivative time)) = refl
+  back (Ok (AskedAtState Jacobian time)) = refl
+  back (Ok (AskedAtState TimePartial time)) = refl
+  back (Ok (AskedAtPart Derivative time at count)) = refl
+  back (Ok (AskedAtPart Jacobian time at count)) = refl
+  back (Ok (AskedAtPart TimePartial time at count)) = refl
 
-  alone : (t : Told) → of_told t ≡ of_told (told_by (of_told t))
-  unfolding number_asked of_told kind_asked told_by
-  alone (Refused k) = refl
-  alone (Number v) = refl
-  alone State = refl
-  alone (Part at count) = refl
-  alone Absent = refl
-  alone (Statistics t) = refl
-  alone (AskedAtState Derivative time) = refl
-  alone (AskedAtState Jacobian time) = refl
-  alone (AskedAtState TimePartial time) = refl
-  alone (AskedAtPart Derivative time at count) = refl
-  alone (AskedAtPart Jacobian time at count) = refl
-  alone (AskedAtPart TimePartial time at count) = refl
+  counted : (t : Result Told Refusal) (c : StepStatistics) → counters_told t c ≡ c → of_statistics t ≡ statistics_handed (tells t m) c
+  unfolding counters_of number_of of_statistics replied statistics_handed reply_of tells counters_told
+  counted (Err k) c h = refl
+  counted (Ok (Number v)) c h = refl
+  counted (Ok State) c h = refl
+  counted (Ok (Part at count)) c h = refl
+  counted (Ok Absent) c h = refl
+  counted (Ok (Statistics t)) c h = λ i. record { statistics = h i; number = 0 }
+  counted (Ok (AskedAtState k time)) c h = refl
+  counted (Ok (AskedAtPart k time at count)) c h = refl
 
-  pub handed_out : (t : Told) {r : ReadingAnswer} {a : Answer} → r ≡ of_told t → tells t m ≡ a → HandsOut r m a
-  handed_out t e h =
-      (ap (λ (z : ReadingAnswer). tells (told_by z) m) e ∙ back t ∙ h, e ∙ alone t ∙ ap (λ (z : ReadingAnswer). of_told (told_by z)) (sym e))
+  pub counters_handed : (t : Result Told Refusal) (c : StepStatistics) (r : StatisticsAnswer) (a : Answer) → r ≡ of_statistics t → (tells t m ≡ a) × (counters_told t c ≡ c) → r ≡ statistics_handed a c
+  counters_handed t c r a e h = e ∙ counted t c h.1 ∙ ap (λ (z : Answer). statistics_handed z c) h.0
 
-  counted : (t : Told) (c : StepStatistics) → counters_told t c ≡ c → ◌≡◌ {A = StatisticsAnswer} (record { statistics = counters_of t; number = refusal_of t }) (statistics_handed (tells t m) c)
-  unfolding counters_of refusal_of replied statistics_handed tells counters_told
-  counted (Refused k) c h = refl
-  counted (Number v) c h = refl
-  counted State c h = refl
-  counted (Part at count) c h = refl
-  counted Absent c h = refl
-  counted (Statistics t) c h = λ i. record { statistics = h i; number = 0 }
-  counted (AskedAtState k time) c h = refl
-  counted (AskedAtPart k time at count) c h = refl
-
-  pub statistics_handed_lem : (t : Told) (c : StepStatistics) {u : StepStatistics} {k : ℕ} {a : Answer} → u ≡ counters_of t → k ≡ refusal_of t → (tells t m ≡ a) × (counters_told t c ≡ c)
-      → ◌≡◌ {A = StatisticsAnswer} (record { statistics = u; number = k }) (statistics_handed a c)
-  statistics_handed_lem t c d e h = (λ i. record { statistics = d i; number = e i }) ∙ counted t c h.1 ∙ ap (λ (z : Answer). statistics_handed z c) h.0
-
-  copying : (t : Told) (old state : List Float) → copy_handed (refusal_of t) (copied t old state) ≡ copy_as_numbers (tells t m) old state
-  unfolding refusal_of copy_as_numbers tells copied
-  copying (Refused k) old state = refl
-  copying (Number v) old state = refl
-  copying State old state = refl
-  copying (Part at count) old state = refl
-  copying Absent old state = refl
-  copying (Statistics t) old state = refl
-  copying (AskedAtState k time) old state = refl
-  copying (AskedAtPart k time at count) old state = refl
-
-  pub copy_handed_lem : (t : Told) (old state : List Float) {k : ℕ} {out : List Float} {a : Answer} → k ≡ refusal_of t → (tells t m ≡ a) × (out ≡ copied t old state) → copy_handed k out ≡ copy_as_numbers a old state
-  copy_handed_lem t old state e h = (λ i. copy_handed (e i) (h.1 i)) ∙ copying t old state ∙ ap (λ (z : Answer). copy_as_numbers z old state) h.0
+  pub copying : (t : Result Told Refusal) (old state : List Float) → copy_handed (number_of t) (copied t old state) ≡ copy_as_numbers (tells t m) old state
+  unfolding number_of copy_as_numbers tells copied
+  copying (Err k) old state = refl
+  copying (Ok t) old state = refl

@@ -1,6 +1,8 @@
 -- What is handed to the host for each answer of the stepper: the record, a number for the kind of answer and the number of a refusal. Definitions only.
-use Rattle.std.specs.Prelude.{false}
+use Rattle.std.specs.Prelude.{false, Result, Ok, Err}
 use Rattle.float.specs.Operators.{𝟎}
+use Rattle.stepping.specs.declared.Refusal.{Refusal}
+use Rattle.stepping.specs.Refusals.{number}
 use Rattle.rosenbrock.specs.declared.RosenbrockStepper.{RosenbrockStepper}
 use Rattle.rosenbrock.specs.declared.Answer as code
 use Rattle.rosenbrock.specs.declared.Outcome.{Outcome}
@@ -15,7 +17,7 @@ use Rattle.stepper_host.specs.declared.MakingAnswer.{MakingAnswer}
 
 -- ---- a call
 
-unfoldable pub of_answer : RosenbrockStepper → code.Answer → StepperAnswer
+unfoldable pub of_answer : RosenbrockStepper → Result code.Answer Refusal → StepperAnswer
 of_answer y a = record { stepper = y; kind = kind_of a; number = number_of a }
 
 unfoldable pub of_outcome : Outcome → StepperAnswer
@@ -59,7 +61,12 @@ making_handed r m = record { answer = r; lent = m }
 
 unfoldable pub of_made : Made → MakingAnswer
 of_made (made y) = record { stepper = y.stepper; number = 0 }
-of_made (not_made k) = record { stepper = blank_stepper; number = k }
+of_made (not_made refusal) = record { stepper = blank_stepper; number = number refusal }
+
+-- the same of the code's answer
+unfoldable pub of_making : Result RosenbrockStepper Refusal → MakingAnswer
+of_making (Ok y) = record { stepper = y; number = 0 }
+of_making (Err refusal) = record { stepper = blank_stepper; number = number refusal }
 
 unfoldable pub making_as_numbers : AfterMaking → MakingHanded
 making_as_numbers r = making_handed (of_made r.made) r.lent

@@ -1,75 +1,53 @@
--- The numbers of the refusals, as the scope paper has them, and how a call's tests decide between them. Definitions only.
-use Rattle.std.specs.Prelude.{ℕ, Bool, cond, List, [], ◌∷◌, eqb}
+-- Why a call is refused: the numbers that hosts in other languages are told, and how a call's tests decide between them. Definitions only.
+use Rattle.std.specs.Prelude.{ℕ, Bool, not, cond, List, [], ◌∷◌, Float, Result, Ok, Err, ⊤}
+use Rattle.vector.specs.Lists.{all_finite}
+use Rattle.stepping.specs.declared.Refusal.{Refusal}
+use Rattle.stepping.specs.declared.Refusal.TheVariants.{Dimension, NonFinite, UnsupportedTableau, Direction, TimeResolution, Singular, Configuration, Tolerance, FirstStep, SegmentData, OutsideTimeSpan, TableauFile, PivotRange, PendingCandidate, NoCandidate, MinimumStep, NoRequest, AttemptOpen, HostFailure}
 
+unfoldable pub number : Refusal → ℕ
 -- because of the input
-abbrev pub dimension : ℕ
-dimension = 1
-
-abbrev pub non_finite : ℕ
-non_finite = 2
-
-abbrev pub unsupported_tableau : ℕ
-unsupported_tableau = 3
-
-abbrev pub direction : ℕ
-direction = 4
-
-abbrev pub time_resolution : ℕ
-time_resolution = 5
-
-abbrev pub singular : ℕ
-singular = 6
-
-abbrev pub configuration : ℕ
-configuration = 7
-
-abbrev pub tolerance : ℕ
-tolerance = 8
-
-abbrev pub first_step : ℕ
-first_step = 9
-
-abbrev pub segment_data : ℕ
-segment_data = 10
-
-abbrev pub outside_time_span : ℕ
-outside_time_span = 11
-
-abbrev pub tableau_file : ℕ
-tableau_file = 12
-
-abbrev pub pivot_range : ℕ
-pivot_range = 13
-
+number Dimension = 1
+number NonFinite = 2
+number UnsupportedTableau = 3
+number Direction = 4
+number TimeResolution = 5
+number Singular = 6
+number Configuration = 7
+number Tolerance = 8
+number FirstStep = 9
+number SegmentData = 10
+number OutsideTimeSpan = 11
+number TableauFile = 12
+number PivotRange = 13
 -- because of the state
-abbrev pub pending_candidate : ℕ
-pending_candidate = 14
+number PendingCandidate = 14
+number NoCandidate = 15
+number MinimumStep = 16
+number NoRequest = 17
+number AttemptOpen = 18
+number HostFailure = 19
 
-abbrev pub no_candidate : ℕ
-no_candidate = 15
+-- 0 where nothing is refused
+unfoldable pub number_of : {A : Type 0} → Result A Refusal → ℕ
+unfolding number
+number_of (Ok x) = 0
+number_of (Err refusal) = number refusal
 
-abbrev pub minimum_step : ℕ
-minimum_step = 16
-
-abbrev pub no_request : ℕ
-no_request = 17
-
-abbrev pub attempt_open : ℕ
-attempt_open = 18
-
-abbrev pub host_failure : ℕ
-host_failure = 19
-
--- a test, and the number with which a call is refused where it holds
+-- a test, and why a call is refused where it holds
 pub data Test : Type 0 where
-  ◌when◌ : ℕ → Bool → Test
+  ◌when◌ : Refusal → Bool → Test
 
 infix 20 ◌when◌
--- the number of the first test that holds, 0 where none does
-unfoldable pub first_of : List Test → ℕ
-first_of [] = 0
-first_of ((k when b) ∷ rest) = cond b k (first_of rest)
+-- refused by the first test that holds, and passed where none does
+unfoldable pub first_of : List Test → Result ⊤ Refusal
+first_of [] = Ok tt
+first_of ((refusal when b) ∷ rest) = cond b (Err refusal) (first_of rest)
 
--- refused with the number k, where it is not 0; the answer otherwise
-unfoldable pub unless_refused : {A : Type 0} → (ℕ → A) → ℕ → A → A
-unless_refused refused k answer = cond (eqb k 0) answer (refused k)
+-- what the tests passed, or what is answered where they refuse
+unfoldable pub unless_refused : {A : Type 0} → (Refusal → A) → Result ⊤ Refusal → A → A
+unless_refused refused (Ok x) answer = answer
+unless_refused refused (Err refusal) answer = refused refusal
+
+-- 2: a number that is not finite
+abbrev pub finite_test : List Float → Test
+finite_test values = NonFinite when not (all_finite values)

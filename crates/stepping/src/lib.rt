@@ -1,113 +1,119 @@
-// The numbers of the refusals, the time that a step reaches, and a step cut at an endpoint.
+// Why a call is refused, the time that a step reaches, and a step cut at an endpoint.
 #![tactic(auto)]
 
-ghost use Rattle.std.specs.Prelude.{◌≡◌, cond};
-ghost use Rattle.vector.specs.Lists.{all_finite};
+ghost use Rattle.std.specs.Prelude.{◌≡◌, [], ◌∷◌};
 ghost use Rattle.stepping.specs.Dimension.{same_dimension};
-ghost use Rattle.stepping.specs.Refusals.{non_finite};
+ghost use Rattle.stepping.specs.Refusals.{number, number_of, first_of, finite_test};
 ghost use Rattle.stepping.specs.Time.{stuck, checked_time, clipped, points_away, endpoint_step};
 
-// Refused because of the input.
-pub const DIMENSION: u32 = 1;
+use thiserror::Error;
 
-pub const NON_FINITE: u32 = 2;
-
-pub const UNSUPPORTED_TABLEAU: u32 = 3;
-
-pub const DIRECTION: u32 = 4;
-
-pub const TIME_RESOLUTION: u32 = 5;
-
-pub const SINGULAR: u32 = 6;
-
-pub const CONFIGURATION: u32 = 7;
-
-pub const TOLERANCE: u32 = 8;
-
-pub const FIRST_STEP: u32 = 9;
-
-pub const SEGMENT_DATA: u32 = 10;
-
-pub const OUTSIDE_TIME_SPAN: u32 = 11;
-
-pub const TABLEAU_FILE: u32 = 12;
-
-pub const PIVOT_RANGE: u32 = 13;
-
-// Refused because of the state.
-pub const PENDING_CANDIDATE: u32 = 14;
-
-pub const NO_CANDIDATE: u32 = 15;
-
-pub const MINIMUM_STEP: u32 = 16;
-
-pub const NO_REQUEST: u32 = 17;
-
-pub const ATTEMPT_OPEN: u32 = 18;
-
-pub const HOST_FAILURE: u32 = 19;
-
-// A time reached, or the number of a refusal.
-#[derive(Clone, Copy)]
-pub enum Checked {
-    At(f64),
-    Refused(u32),
+// Why a call is refused: the first thirteen because of what is handed over, the others because of the state.
+#[derive(Clone, Copy, Debug, PartialEq, Eq, Error)]
+pub enum Refusal {
+    #[error("lengths or sizes do not fit")]
+    Dimension = 1,
+    #[error("a number is not finite")]
+    NonFinite,
+    #[error("hybrid tableaus are not supported")]
+    UnsupportedTableau,
+    #[error("the direction is wrong")]
+    Direction,
+    #[error("the time cannot resolve the step")]
+    TimeResolution,
+    #[error("the matrix is singular")]
+    Singular,
+    #[error("the controller's settings or state are invalid")]
+    Configuration,
+    #[error("a tolerance is not positive and finite")]
+    Tolerance,
+    #[error("the norms give no first step")]
+    FirstStep,
+    #[error("the segment is invalid")]
+    SegmentData,
+    #[error("the time lies outside the segment")]
+    OutsideTimeSpan,
+    #[error("this is no tableau file")]
+    TableauFile,
+    #[error("a pivot is no row")]
+    PivotRange,
+    #[error("a candidate is pending")]
+    PendingCandidate,
+    #[error("no candidate is pending")]
+    NoCandidate,
+    #[error("no shorter step is allowed")]
+    MinimumStep,
+    #[error("nothing was requested")]
+    NoRequest,
+    #[error("an attempt is open")]
+    AttemptOpen,
+    #[error("the host reported failure")]
+    HostFailure,
 }
 
-// A step to take, or the number of a refusal.
-#[derive(Clone, Copy)]
-pub enum Endpoint {
-    Step(f64),
-    Refused(u32),
+impl Refusal {
+    // From 1 to 19: what a host in another language is told.
+    #[tactic(auto, unfolding(crate::specs::Refusals::number))]
+    pub fn number(self) -> u32
+        ensures { result ≡ number self }
+    {
+        self as u32
+    }
 }
 
-// 0 where each value is finite, and the refusal's number otherwise.
-pub fn finite(values: &[f64]) -> u32
-    ensures { result ≡ cond (all_finite values.now) 0 non_finite }
+// The refusal's number, 0 for none.
+#[tactic(auto, unfolding(crate::specs::Refusals::number_of))]
+pub fn number_of<T: Copy>(answer: Result<T, Refusal>) -> u32
+    ensures { result ≡ number_of answer }
+{
+    match answer {
+        Ok(_) => 0,
+        Err(refusal) => refusal.number(),
+    }
+}
+
+// Whether each value is finite.
+#[tactic(auto, unfolding(crate::specs::Refusals::first_of))]
+pub fn finite(values: &[f64]) -> Result<(), Refusal>
+    ensures { result ≡ first_of (finite_test values.now ∷ []) }
 {
     if vector::all_finite(values) {
-        return 0;
+        Ok(())
+    } else {
+        Err(Refusal::NonFinite)
     }
-    NON_FINITE
 }
 
 // Whether a step other than 0 leaves the time where it was.
 fn stuck(time: f64, step: f64, end: f64) -> bool
     ensures { result ≡ stuck time step end }
 {
-    if step != 0.0 {
-        return end == time;
-    }
-    false
+    step != 0.0 && end == time
 }
 
 // The time that a step reaches.
-pub fn checked_time(time: f64, step: f64) -> Checked
+#[tactic(auto, unfolding(crate::specs::Time::checked_time, crate::specs::Refusals::first_of, crate::specs::Refusals::unless_refused))]
+pub fn checked_time(time: f64, step: f64) -> Result<f64, Refusal>
     ensures { result ≡ checked_time time step }
 {
     let end = time + step;
-    let all = [time, step, end];
-    let number = finite(&all[..]);
-    if number != 0 {
-        return Checked::Refused(number);
-    }
+    finite(&[time, step, end])?;
     if stuck(time, step, end) {
-        return Checked::Refused(TIME_RESOLUTION);
+        return Err(Refusal::TimeResolution);
     }
-    Checked::At(end)
+    Ok(end)
 }
 
 // Whether a proposal points away from where the endpoint lies.
+#[tactic(auto, unfolding(crate::specs::Time::points_away))]
 fn points_away(remaining: f64, proposal: f64) -> bool
     ensures { result ≡ points_away remaining proposal }
 {
-    if proposal == 0.0 {
-        return true;
-    }
-    float::signum(remaining) != float::signum(proposal)
+    proposal == 0.0 || float::signum(remaining) != float::signum(proposal)
 }
 
 // The proposed step, cut at the endpoint.
+#[tactic(auto, unfolding(crate::specs::Time::clipped))]
 fn clipped(remaining: f64, proposal: f64) -> f64
     ensures { result ≡ clipped remaining proposal }
 {
@@ -119,40 +125,27 @@ fn clipped(remaining: f64, proposal: f64) -> f64
 }
 
 // The proposed step cut at the endpoint, 0 where the endpoint is reached.
-pub fn endpoint_step(time: f64, endpoint: f64, proposal: f64) -> Endpoint
+#[tactic(auto, unfolding(crate::specs::Time::endpoint_step, crate::specs::Time::if_reached, crate::specs::Refusals::first_of))]
+pub fn endpoint_step(time: f64, endpoint: f64, proposal: f64) -> Result<f64, Refusal>
     ensures { result ≡ endpoint_step time endpoint proposal }
 {
-    let all = [time, endpoint, proposal];
-    let number = finite(&all[..]);
-    if number != 0 {
-        return Endpoint::Refused(number);
-    }
+    finite(&[time, endpoint, proposal])?;
     let remaining = endpoint - time;
     if remaining == 0.0 {
-        return Endpoint::Step(0.0);
+        return Ok(0.0);
     }
     if points_away(remaining, proposal) {
-        return Endpoint::Refused(DIRECTION);
+        return Err(Refusal::Direction);
     }
     let step = clipped(remaining, proposal);
-    match checked_time(time, step) {
-        Checked::At(_) => Endpoint::Step(step),
-        Checked::Refused(number) => Endpoint::Refused(number),
-    }
+    checked_time(time, step)?;
+    Ok(step)
 }
 
 // Whether the three have one length, from 1 to 32.
+#[tactic(auto, unfolding(crate::specs::Dimension::same_dimension))]
 pub fn same_dimension(n: usize, m: usize, k: usize) -> bool
     ensures { result ≡ same_dimension n m k }
 {
-    if n < 1 {
-        return false;
-    }
-    if n > 32 {
-        return false;
-    }
-    if m != n {
-        return false;
-    }
-    k == n
+    1 <= n && n <= 32 && m == n && k == n
 }

@@ -1,17 +1,18 @@
 -- A step with the host's Jacobian and time partial asks for at most three evaluations and one for each stage. Assumes nothing.
 use Prim.Native.Nat.{ℕ, zero, suc, ◌+◌, ◌≤◌}
 use native.Mathlib.Omega.{arith}
-use mathlib.Core.Path.{◌≡◌, refl, ap, ◌∙◌}
+use mathlib.Core.Path.{◌≡◌, refl, ap}
 use mathlib.Core.Bool.{Bool, true, false, cond}
 use mathlib.Core.List.{List, [], ◌∷◌, ◌++◌}
 use lib.ListN.{length}
 use lib.Ieee.{Float, eq}
+use Rattle.std.specs.Prelude.{Option, Some, None}
 use Rattle.float.specs.Operators.{𝟎}
 use Rattle.stepping.specs.Refusals.{Test, ◌when◌}
 use Rattle.time_difference.specs.Policy.{probes}
 use Rattle.tableau.specs.Tableau.{stages_of}
 use Rattle.refusals.specs.Answers.{jacobian, time_partial, Request}
-use Rattle.method.specs.Step.{Attempted, Evaluated, Cache, cached, nothing, Caches, evaluated, reused, stages}
+use Rattle.method.specs.Step.{Attempted, Evaluated, Caches, evaluated, reused}
 use Rattle.method.specs.Schedule.{Item, evaluate, test, at, finite_test, unless_cached, derivative_items, columns_items, jacobian_items, probe_items, partial_items, matrix_items, stage_derivative_items, stage_items, stages_items, end_items, schedule, asks_for}
 use Rattle.method.specs.Conversation.{requests_of}
 
@@ -24,18 +25,18 @@ asks_few : (items : List Item) → length (asks_for items) ≤ evaluations items
 unfolding asks_for
 asks_few [] = omega arith
 asks_few (evaluate r ∷ items) = let h = asks_few items in omega arith
-asks_few (test (k when true) ∷ items) = omega arith
-asks_few (test (k when false) ∷ items) = asks_few items
+asks_few (test (refusal when true) ∷ items) = omega arith
+asks_few (test (refusal when false) ∷ items) = asks_few items
 
 joined : (xs ys : List Item) → evaluations (xs ++ ys) ≡ evaluations xs + evaluations ys
 joined [] ys = omega arith
 joined (evaluate r ∷ xs) ys = let h = joined xs ys in omega arith
 joined (test t ∷ xs) ys = joined xs ys
 
-unless_few : {A : Type 0} (k : Cache A) (items : List Item) → evaluations (unless_cached k items) ≤ evaluations items
+unless_few : {A : Type 0} (k : Option A) (items : List Item) → evaluations (unless_cached k items) ≤ evaluations items
 unfolding unless_cached
-unless_few (cached x) items = omega arith
-unless_few nothing items = omega arith
+unless_few (Some x) items = omega arith
+unless_few None items = omega arith
 
 one_or_none : (b : Bool) (t u v : Test) (r : Request) → evaluations (cond b [] (test t ∷ evaluate r ∷ test u ∷ []) ++ (test v ∷ [])) ≤ 1
 one_or_none true t u v r = omega arith

@@ -3,13 +3,14 @@ use Prim.Native.Nat.{ℕ, ◌≤◌}
 use mathlib.Core.Path.{◌≡◌, refl, sym, ap, subst, ◌∙◌}
 use mathlib.Core.Bool.{Bool, true, false, not, cond}
 use mathlib.Core.List.{List, [], ◌∷◌, ◌++◌}
-use mathlib.Core.Option.{Option, none, some}
-use native.Mathlib.Omega.{arith}
+use Rattle.std.specs.Prelude.{Option, Some, None, Ok}
 use borrow.Author.Tests.{eqb-true}
 use lib.Dec.{eqb}
 use lib.Ieee.{Float, eq}
 use Rattle.float.specs.Operators.{◌⊕◌, 𝟎, 𝟏}
-use Rattle.stepping.specs.Refusals.{dimension, unsupported_tableau, ◌when◌, first_of}
+use Rattle.stepping.specs.declared.Refusal.{Refusal}
+use Rattle.stepping.specs.declared.Refusal.TheVariants.{TableauFile, UnsupportedTableau, Dimension}
+use Rattle.stepping.specs.Refusals.{◌when◌, first_of}
 use Rattle.stepping.proofs.Refusals.{passed, held}
 use Rattle.tableau.specs.Tableau.{stages_of}
 use Rattle.tableau.specs.File.{tableau_of, accepts}
@@ -24,13 +25,12 @@ use Rattle.rosenbrock.specs.Stepper.{attempt, accept, by_value, called, System, 
 use Rattle.rosenbrock.proofs.Guards.{guarded_either, guarded_passed}
 use Rattle.refusals.proofs.Fitting.{Fits, fits_passed}
 use Rattle.lists.proofs.Steady.{called_fits}
-use Rattle.method.specs.Step.{Attempted, Caches, Evaluated, evaluated}
+use Rattle.method.specs.Step.{Attempted, Caches, evaluated}
 use Rattle.method.specs.Schedule.{schedule, ends_in}
 use Rattle.method.specs.Conversation.{Conversation, Sized, attempted_by, caches_in, requests_of, last_answer, rest_view}
 use Rattle.method.specs.Conversation as conversation
 use Rattle.method.proofs.Attempt.{attempt_is_step}
 use Rattle.decay.specs.Host.{decay, answered, if_shown, decided, one_step}
-use Rattle.forecast.specs.declared.Forecast.TheVariants.{Over}
 use Rattle.forecast.specs.Pond.{standing, after_step, advanced_by, advanced}
 use Rattle.steps_end.specs.Claim.{is_end, StepEnds, NotOver}
 use Rattle.steps_end.proofs.Counted.{requests_few}
@@ -56,10 +56,10 @@ last_settled : (p : Attempted) (end : Float) (c : Caches) → settled (conversat
 unfolding conversation.answer_of last_answer settled
 last_settled p end c = go (eq p.h 𝟎) (ends_in (schedule p c))
   where
-    go : (b : Bool) (k : Option ℕ) → settled (cond b (shown (rest_view p end)) (last_answer p end k (evaluated p c))) ≡ true
+    go : (b : Bool) (k : Option Refusal) → settled (cond b (shown (rest_view p end)) (last_answer p end k (evaluated p c))) ≡ true
     go true k = refl
-    go false (some k) = refl
-    go false none = refl
+    go false (Some refusal) = refl
+    go false None = refl
 
 -- ---- a step
 
@@ -71,24 +71,24 @@ module _ (file : List ℕ) (fx : Fixed) (one : fx.n ≡ 1) (x : Progress) (m : L
   abbrev Ending : Out → Type 0
   Ending o = (r : Next) → Stands fx r o → is_end (decided (answered 11 file r)).answer ≡ true
 
-  refused_ends : (k : ℕ) → Ending (refusal x m k)
+  refused_ends : (k : Refusal) → Ending (refusal x m k)
   unfolding refusal settled
   refused_ends k r s =
       let h : settled r.answer ≡ true = ap settled s.answer in
       ap (λ (z : Next). is_end (decided z).answer) (still fx file 11 r h) ∙ decided_ends r (refused k) s.answer refl
 
-  module _ (h : first_of (attempt_tests fx file x m) ≡ 0) (k : first_of (step_tests 𝟏 x) ≡ 0) where
-    both : Fits fx x m × (first_of (file_tests fx.s file ++ (open_test x ∷ [])) ≡ 0)
+  module _ (h : first_of (attempt_tests fx file x m) ≡ Ok tt) (k : first_of (step_tests 𝟏 x) ≡ Ok tt) where
+    both : Fits fx x m × (first_of (file_tests fx.s file ++ (open_test x ∷ [])) ≡ Ok tt)
     both = fits_passed fx x m _ h
 
     few : stages_of (tableau_of file) ≤ 8
     few =
         let rest = open_test x ∷ [] in
-        let fits = dimension when not (eqb (stages_of (tableau_of file)) fx.s) in
-        let supported = unsupported_tableau when eqb (tableau_of file).counts.kind 1 in
-        let t₁ = held 11 (accepts file) (supported ∷ fits ∷ rest) both.1 in
-        let t₂ = passed 2 (eqb (tableau_of file).counts.kind 1) (fits ∷ rest) t₁.1 in
-        let e = eqb-true (stages_of (tableau_of file)) fx.s (held 0 (eqb (stages_of (tableau_of file)) fx.s) rest t₂.1).0 in
+        let fits = Dimension when not (eqb (stages_of (tableau_of file)) fx.s) in
+        let supported = UnsupportedTableau when eqb (tableau_of file).counts.kind 1 in
+        let t₁ = held TableauFile (accepts file) (supported ∷ fits ∷ rest) both.1 in
+        let t₂ = passed UnsupportedTableau (eqb (tableau_of file).counts.kind 1) (fits ∷ rest) t₁.1 in
+        let e = eqb-true (stages_of (tableau_of file)) fx.s (held Dimension (eqb (stages_of (tableau_of file)) fx.s) rest t₂.1).0 in
         subst (λ (s : ℕ). s ≤ 8) (sym e) both.0.shape.s_to_8
 
     goes_through : Ending (attempt_of fx file 𝟏 true true x m)
@@ -125,13 +125,13 @@ step_ends file y one =
 
 -- ---- so a forecast is over only after a refusal
 
-standing_on : (a : Answer) (z : RosenbrockStepper) → is_end a ≡ true → standing a z ≡ Over → ⊥
+standing_on : (a : Answer) (z : RosenbrockStepper) → is_end a ≡ true → standing a z ≡ None → ⊥
 unfolding standing is_end
-standing_on done z h e = let w : ◌≡◌ {A = ℕ} 0 1 = cc in omega arith
-standing_on (refused k) z h e = let w : ◌≡◌ {A = ℕ} 0 1 = cc in omega arith
-standing_on (asked q) z h e = let w : ◌≡◌ {A = ℕ} 0 1 = cc in omega arith
-standing_on (shown v) z h e = let w : ◌≡◌ {A = ℕ} 0 1 = cc in omega arith
-standing_on (told t) z h e = let w : ◌≡◌ {A = ℕ} 0 1 = cc in omega arith
+standing_on done z h e = cc
+standing_on (refused refusal) z h e = cc
+standing_on (asked q) z h e = cc
+standing_on (shown v) z h e = cc
+standing_on (told t) z h e = cc
 
 pub not_over : NotOver
 unfolding advanced advanced_by after_step

@@ -1,26 +1,27 @@
 -- The host's answers to an attempt are those of a conversation in which f, J and fₜ answer every request. Assumes nothing.
 use Prim.Native.Nat.{ℕ, zero, suc, ◌≤◌}
 use native.Mathlib.Omega.{arith}
-use mathlib.Core.Path.{◌≡◌, refl, sym, ap, subst, ◌∙◌}
+use mathlib.Core.Path.{◌≡◌, refl, sym, ap, ◌∙◌}
 use mathlib.Core.Bool.{Bool, true, false}
 use mathlib.Core.List.{List, [], ◌∷◌, ◌++◌}
 use lib.ListN.{length}
 use lib.Ieee.{Float}
-use Rattle.stepping.specs.Refusals.{Test, first_of}
-use Rattle.stepping.proofs.Refusals.{none, holds_later, two_passed}
+use Rattle.std.specs.Prelude.{Ok}
+use Rattle.stepping.specs.declared.Refusal.{Refusal}
+use Rattle.stepping.specs.declared.Refusal.TheVariants.{NoRequest}
+use Rattle.stepping.specs.Refusals.{first_of}
+use Rattle.stepping.proofs.Refusals.{none, holds_later, all_passed}
 use Rattle.attempts.specs.declared.Memo.{Memo}
-use Rattle.attempts.specs.declared.Ending.{Ending}
-use Rattle.attempts.specs.declared.Ending.TheVariants.{Asks, Ends, Shows}
-use Rattle.attempts.specs.Attempt.{Stopped}
+use Rattle.attempts.specs.Attempt.{Ending, Asks, Ends, Shows, Stopped}
 use Rattle.refusals.specs.declared.Fixed.{Fixed}
 use Rattle.refusals.specs.declared.Progress.{Progress}
 use Rattle.refusals.specs.Requests.{is_open, ask_of, request_after, stage_after}
 use Rattle.refusals.specs.Answers.{Lent, lending, Request, Answer, refused, asked, shown, told, done, request, request_of, answer_of}
 use Rattle.refusals.specs.Tests.{fit_tests, request_test}
-use Rattle.rosenbrock.specs.Calls.{Out, refusal, guarded, progress_after, settle, opened, attempt_by, attempt_of, supply_of}
+use Rattle.rosenbrock.specs.Calls.{Out, refusal, progress_after, settle, opened, attempt_by, attempt_of, supply_of}
 use Rattle.rosenbrock.specs.Readers.{the_request, query_tests, reply, read_of}
 use Rattle.rosenbrock.specs.Readers as readers
-use Rattle.rosenbrock.specs.Stepper.{Call, attempt, supply, read, called, System, Next, needed, trimmed, result, stepped}
+use Rattle.rosenbrock.specs.Stepper.{Call, supply, read, called, System, Next, needed, trimmed, result, stepped}
 use Rattle.refusals.proofs.Requests.{read_back, asked_open}
 use Rattle.rosenbrock.proofs.Guards.{guarded_either, guarded_passed}
 use Rattle.rosenbrock.proofs.Memory.{memory_after}
@@ -68,7 +69,7 @@ module _ (fx : Fixed) where
       → (is_open o.progress.request ≡ true)
       × (request_of fx o.progress o.lent (ask_of o.progress.request o.progress.stage) ≡ q)
 
-  refusal_readable : (x : Progress) (m : Lent) (k : ℕ) → Readable (refusal x m k)
+  refusal_readable : (x : Progress) (m : Lent) (k : Refusal) → Readable (refusal x m k)
   unfolding refusal
   refusal_readable x m k q e = (cc, cc)
 
@@ -103,7 +104,7 @@ module _ (fx : Fixed) where
       → (read_of the_request fx x m).answer ≡ told (request q)
   unfolding read_of query_tests readers.answered reply
   told_by x m q f o e =
-      let z : first_of (fit_tests fx x m ++ (request_test x ∷ [])) ≡ 0 = two_passed 0 0 _ _ (request_test x ∷ []) (fits_tests fx x m f) ∙ holds_later 17 [] o none in
+      let z : first_of (fit_tests fx x m ++ (request_test x ∷ [])) ≡ Ok tt = all_passed (fit_tests fx x m) (request_test x ∷ []) (fits_tests fx x m f) ∙ holds_later NoRequest [] o none in
       ap (λ (p : Out). p.answer) (guarded_passed (fit_tests fx x m ++ (request_test x ∷ [])) x m (readers.answered the_request fx x m) z)
       ∙ ap (λ (p : Request). told (request p)) e
 
@@ -122,7 +123,7 @@ module _ (fx : Fixed) (file : List ℕ) where
   unfolding if_asked settled
   kept (shown v) next now h = refl
   kept (refused k) next now h = refl
-  kept (asked q) next now h = let z : ◌≡◌ {A = ℕ} 0 1 = cc in absurd (omega arith)
+  kept (asked q) next now h = cc
   kept (told r) next now h = refl
   kept done next now h = refl
 

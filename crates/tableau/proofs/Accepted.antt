@@ -1,8 +1,7 @@
 -- What a check that answered 0 tells its caller. Assumes nothing.
 use Prim.Native.Nat.{ℕ, ◌<◌, ◌≤◌}
-use native.Mathlib.Omega.{arith}
-use mathlib.Core.Path.{◌≡◌, refl, sym, ◌∙◌}
-use mathlib.Core.Bool.{Bool, true, false, ◌&&◌, cond}
+use mathlib.Core.Path.{◌≡◌}
+use mathlib.Core.Bool.{true, ◌&&◌}
 use mathlib.Core.List.{List}
 use lib.Dec.{eqb, leb}
 use lib.ListN.{length, get_or}
@@ -11,9 +10,8 @@ use Rattle.float.proofs.Cases.{and_left, and_right}
 use Rattle.vector.specs.Lists.{el, every}
 use Rattle.vector.proofs.Lists.{every_at}
 use Rattle.tableau.specs.declared.Counts.{Counts}
-use Rattle.tableau.specs.Tableau.{Tableau, in_range, how_many, allowed, allowed_at, valid, stages_of}
-use Rattle.tableau.specs.File.{place, header, number, counts_of, tableau_of, matches, accepts, check}
-use Rattle.tableau.proofs.Laws.{stages_few}
+use Rattle.tableau.specs.Tableau.{Tableau, in_range, how_many, allowed, allowed_at, valid}
+use Rattle.tableau.specs.File.{place, header, number, counts_of, tableau_of, matches, accepts}
 
 pub record InRange (k : Counts) : Type 0 where
   pub least : 1 ≤ k.stages
@@ -72,16 +70,3 @@ is_accepted file h =
       long = eqb-true (length file) (place (how_many k)) (and_left l o r);
       number_at = λ i q. eqb-true (number file i) (get_or (header k) i 0) (every_at (matches file (header k)) 12 i (and_right l o r) q);
     }
-
--- r is what `check` answered
-pub passed : (file : List ℕ) {r : ℕ} → r ≡ check file → r ≡ 0 → Accepted file
-unfolding check
-passed file e z = is_accepted file (zero-only (accepts file) (sym z ∙ e))
-  where
-    zero-only : (b : Bool) → ◌≡◌ {A = ℕ} 0 (cond b 0 12) → b ≡ true
-    zero-only true e = refl
-    zero-only false e = absurd (omega arith)
-
--- the stages are those that the file says
-pub stages_are : (file : List ℕ) → Accepted file → (counts_of file).stages ≡ stages_of (tableau_of file)
-stages_are file A = stages_few (tableau_of file) refl A.tableau.counts_in_range.most

@@ -1,13 +1,13 @@
 -- The fields of a tableau, from the places at which the code reads them. Assumes nothing.
 use Prim.Native.Nat.{ℕ, ◌+◌, ◌*◌, ◌/◌, ◌<◌, ◌≤◌}
 use native.Mathlib.Omega.{arith}
-use mathlib.Core.Path.{◌≡◌, sym, ap, ◌∙◌}
+use mathlib.Core.Path.{◌≡◌, refl, sym, ap, ◌∙◌}
 use mathlib.Core.List.{List}
 use lib.ListN.{length}
 use lib.Ieee.{binary64, of_bits, div}
 use borrow.Author.Tests.{lt-ltb, le-ltb}
 use Rattle.float.proofs.Cases.{yes, no}
-use Rattle.tableau.specs.Tableau.{Tableau, triangle, stages_of, of_part, a_of, coupling_of, c_of, d_of, b_of, btilde_of}
+use Rattle.tableau.specs.Tableau.{Tableau, triangle, c_at, stages_of, of_part, a_of, coupling_of, c_of, d_of, b_of, btilde_of}
 use Rattle.tableau.specs.File.{coefficients_of, tableau_of}
 use Rattle.float.proofs.Laws.{nan_is}
 use Rattle.vector.specs.Lists.{el}
@@ -17,25 +17,26 @@ use Rattle.tableau.proofs.Laws.{coefficient_past}
 start_is : (t : Tableau) (i : ℕ) {k l m n : ℕ} → k ≡ l → m ≡ n → of_part t k m i ≡ of_part t l n i
 start_is t i e f = rw (e, f)
 
-module _ (t : Tableau) (i : ℕ) {s m : ℕ} (e : s ≡ stages_of t) (f : m ≡ triangle s) where
-  m_is : m ≡ triangle (stages_of t)
-  m_is = f ∙ ap triangle e
+-- the vectors, one after the other
+module _ (t : Tableau) (i : ℕ) where
+  abbrev S : ℕ
+  S = stages_of t
 
-  pub c_is : of_part t (1 + 2 * m) s i ≡ c_of t i
+  pub c_is : of_part t (c_at S + 0 * S) S i ≡ c_of t i
   unfolding c_of
-  c_is = start_is t i (omega (arith, m_is)) e
+  c_is = start_is t i (omega arith) refl
 
-  pub d_is : of_part t (1 + 2 * m + s) s i ≡ d_of t i
+  pub d_is : of_part t (c_at S + 1 * S) S i ≡ d_of t i
   unfolding d_of
-  d_is = start_is t i (omega (arith, m_is)) e
+  d_is = start_is t i (omega arith) refl
 
-  pub b_is : of_part t (1 + 2 * m + 2 * s) s i ≡ b_of t i
+  pub b_is : of_part t (c_at S + 2 * S) S i ≡ b_of t i
   unfolding b_of
-  b_is = start_is t i (omega (arith, m_is)) e
+  b_is = start_is t i (omega arith) refl
 
-  pub btilde_is : of_part t (1 + 2 * m + 3 * s) s i ≡ btilde_of t i
+  pub btilde_is : of_part t (c_at S + 3 * S) S i ≡ btilde_of t i
   unfolding btilde_of
-  btilde_is = start_is t i (omega (arith, m_is)) e
+  btilde_is = start_is t i (omega arith) refl
 
 module _ (t : Tableau) (i j : ℕ) {s : ℕ} (e : s ≡ stages_of t) where
   module _ (h : i < s) where

@@ -6,7 +6,7 @@ use mathlib.Core.Path.{◌≡◌, refl, sym, ap, ◌∙◌}
 use mathlib.Core.List.{List}
 use lib.Dec.{leb}
 use lib.ListN.{length, get_or-eq_default}
-use lib.Ieee.{nan}
+use lib.Ieee.{nan, binary64, of_bits}
 use borrow.Author.Tests.{le-leb, lt-leb}
 use Rattle.codec.specs.Little.{little, double_at}
 use Rattle.float.proofs.Cases.{yes, no}
@@ -44,6 +44,11 @@ coefficient_at file k h = table_at nan (λ j. double_at file (place j)) ((length
 
 pub coefficient_past : (file : List ℕ) (k : ℕ) → (length file - 48) / 8 ≤ k → el (coefficients_of file) k ≡ nan
 coefficient_past file k h = get_or-eq_default (coefficients_of file) nan (omega (arith, length_coefficients file))
+
+-- the code's NaN
+pub nan_bits : of_bits binary64 0x7ff8_0000_0000_0000 ≡ nan
+unfolding of_bits
+nan_bits = refl
 
 -- ---- the stages that a reader answers
 module _ (t : Tableau) {s : ℕ} (e : s ≡ t.counts.stages) where

@@ -1,10 +1,10 @@
--- Worked examples: the file that the scope paper's program is run on, files one change away from it, a tableau of two stages field by field, and the
--- length as the scope paper prints it. Assumes nothing.
+-- Worked examples: the file that pond is run on, files one change away from it, a tableau of two stages field by field, and the
+-- lengths of the shortest and of the longest. Assumes nothing.
 use Prim.Native.Nat.{ℕ, zero, suc, ◌+◌, ◌-◌, ◌*◌}
 use native.Mathlib.Nat.{mul-suc}
 use native.Mathlib.Omega.{arith}
 use mathlib.Core.Path.{◌≡◌, refl}
-use mathlib.Core.Bool.{false}
+use mathlib.Core.Bool.{true, false}
 use mathlib.Core.List.{List, [], ◌∷◌, ◌++◌}
 use lib.ListN.{take, set}
 use lib.IntN.{pos}
@@ -12,7 +12,8 @@ use lib.Ieee.{Float, nan, fin, eq, of_bits, to_bits}
 use Rattle.codec.specs.Little.{little, bytes_of, bytes_of_all}
 use Rattle.vector.specs.Lists.{table, every}
 use Rattle.stepping.specs.Refusals.{unless_refused}
-use Rattle.tableau.specs.declared.Sameness.TheVariants.{Same, Other, Refused}
+use Rattle.std.specs.Prelude.{Ok, Err}
+use Rattle.stepping.specs.declared.Refusal.TheVariants.{TableauFile}
 use Rattle.tableau.specs.Tableau.{Tableau, triangle, if_present, how_many, in_range, allowed_at, valid, stages_of, of_part, gamma_of, a_of, coupling_of, c_of, d_of, b_of, btilde_of}
 use Rattle.tableau.specs.File.{place, header, file_of, number, counts_of, coefficients_of, tableau_of, matches, accepts, check}
 use Rattle.tableau.specs.Same.{alike_at, same_counts, same_tableau, same}
@@ -38,32 +39,32 @@ unfolding pond number counts_of coefficients_of table little of_bits file_of hea
 pond_written = refl
 
 -- it is taken, and so is a hybrid one
-pub pond_taken : (check pond ≡ 0) × (check (set pond 4 1) ≡ 0)
+pub pond_taken : (check pond ≡ Ok tt) × (check (set pond 4 1) ≡ Ok tt)
 unfolding pond check accepts valid in_range how_many if_present triangle every allowed_at header number counts_of coefficients_of matches table little of_bits
 pond_taken = (refl, refl)
 
 -- 0 and 9 stages, kind 2, estimator 2, btilde 2
-pub wrong_counts : (check (set pond 0 0) ≡ 12) × (check (set pond 0 9) ≡ 12) × (check (set pond 4 2) ≡ 12) × (check (set pond 8 2) ≡ 12) × (check (set pond 12 2) ≡ 12)
+pub wrong_counts : (check (set pond 0 0) ≡ Err TableauFile) × (check (set pond 0 9) ≡ Err TableauFile) × (check (set pond 4 2) ≡ Err TableauFile) × (check (set pond 8 2) ≡ Err TableauFile) × (check (set pond 12 2) ≡ Err TableauFile)
 unfolding pond check accepts valid in_range how_many if_present triangle every allowed_at header number counts_of coefficients_of matches table little of_bits
 wrong_counts = (refl, refl, refl, refl, refl)
 
 -- gamma at 49; c at 64, after a gap; an absent btilde with an offset; another length
-pub wrong_numbers : (check (set pond 16 49) ≡ 12) × (check (set pond 28 64) ≡ 12) × (check (set pond 40 80) ≡ 12) × (check (set pond 44 88) ≡ 12)
+pub wrong_numbers : (check (set pond 16 49) ≡ Err TableauFile) × (check (set pond 28 64) ≡ Err TableauFile) × (check (set pond 40 80) ≡ Err TableauFile) × (check (set pond 44 88) ≡ Err TableauFile)
 unfolding pond check accepts valid in_range how_many if_present triangle every allowed_at header number counts_of coefficients_of matches table little of_bits
 wrong_numbers = (refl, refl, refl, refl)
 
 -- b infinite, and a NaN
-pub wrong_coefficients : (check (set pond 79 127) ≡ 12) × (check (set (set pond 79 127) 72 1) ≡ 12)
+pub wrong_coefficients : (check (set pond 79 127) ≡ Err TableauFile) × (check (set (set pond 79 127) 72 1) ≡ Err TableauFile)
 unfolding pond check accepts valid in_range how_many if_present triangle every allowed_at header number counts_of coefficients_of matches table little of_bits
 wrong_coefficients = (refl, refl)
 
 -- a byte less, a byte more, 47 bytes, none
-pub wrong_lengths : (check (take 79 pond) ≡ 12) × (check (pond ++ (0 ∷ [])) ≡ 12) × (check (take 47 pond) ≡ 12) × (check [] ≡ 12)
+pub wrong_lengths : (check (take 79 pond) ≡ Err TableauFile) × (check (pond ++ (0 ∷ [])) ≡ Err TableauFile) × (check (take 47 pond) ≡ Err TableauFile) × (check [] ≡ Err TableauFile)
 unfolding pond check accepts valid in_range how_many if_present triangle every allowed_at header number counts_of coefficients_of matches table little of_bits
 wrong_lengths = (refl, refl, refl, refl)
 
 -- -0 for 0 in c is the same tableau; a c that is not 0, and the other kind, are not; the refusal comes first
-pub pond-same : (same pond (set pond 63 128) ≡ Same) × (same pond (set pond 56 1) ≡ Other) × (same pond (set pond 4 1) ≡ Other) × (same (set pond 4 1) (take 79 pond) ≡ Refused 12)
+pub pond-same : (same pond (set pond 63 128) ≡ Ok true) × (same pond (set pond 56 1) ≡ Ok false) × (same pond (set pond 4 1) ≡ Ok false) × (same (set pond 4 1) (take 79 pond) ≡ Err TableauFile)
 unfolding pond same same_tableau same_counts alike_at unless_refused eq check accepts valid in_range how_many if_present triangle every allowed_at header number counts_of coefficients_of matches table little of_bits
 pond-same = (refl, refl, refl, refl)
 

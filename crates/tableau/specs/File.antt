@@ -1,4 +1,4 @@
--- The tableau file, from the scope paper, Tableau file. All is little-endian. First come twelve numbers of 32 bits:
+-- The tableau file. All is little-endian. First come twelve numbers of 32 bits:
 --
 --   0   stages, 1 to 8
 --   1   kind: 0 Rosenbrock, 1 hybrid
@@ -14,12 +14,13 @@
 --   11  the length of the file in bytes
 --
 -- Then come the coefficients, as doubles of IEEE 754 binary64, in this order and without gaps. Definitions only.
-use Rattle.std.specs.Prelude.{ℕ, ◌+◌, ◌-◌, ◌*◌, ◌/◌, Bool, ◌&&◌, cond, List, [], ◌∷◌, ◌++◌, map, leb, eqb, length, get_or, Float}
+use Rattle.std.specs.Prelude.{ℕ, ◌+◌, ◌-◌, ◌*◌, ◌/◌, Bool, ◌&&◌, cond, List, [], ◌∷◌, ◌++◌, map, leb, eqb, length, get_or, Float, Result, Ok, Err, ⊤}
 use Rattle.std.specs.Float.{binary64}
 use Rattle.std.specs.Float.Ieee.{to_bits}
 use Rattle.codec.specs.Little.{little, double_at, bytes_of_all}
 use Rattle.vector.specs.Lists.{table, every}
-use Rattle.stepping.specs.Refusals.{tableau_file}
+use Rattle.stepping.specs.declared.Refusal.{Refusal}
+use Rattle.stepping.specs.declared.Refusal.TheVariants.{TableauFile}
 use Rattle.tableau.specs.declared.Counts.{Counts}
 use Rattle.tableau.specs.Tableau.{Tableau, gamma_at, a_at, coupling_at, c_at, d_at, b_at, btilde_at, if_present, how_many, valid}
 
@@ -68,6 +69,6 @@ accepts file =
     let k = counts_of file in
     valid (tableau_of file) && (eqb (length file) (place (how_many k)) && every 12 (matches file (header k)))
 
--- 0, or the number of the refusal
-unfoldable pub check : List ℕ → ℕ
-check file = cond (accepts file) 0 tableau_file
+-- 12 for a file that is not taken
+unfoldable pub check : List ℕ → Result ⊤ Refusal
+check file = cond (accepts file) (Ok tt) (Err TableauFile)

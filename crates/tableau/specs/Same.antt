@@ -1,12 +1,11 @@
--- Whether two files hold the same tableau, from the scope paper, Tableau file: the counts agree and every pair of coefficients compares equal.
+-- Whether two files hold the same tableau: the counts agree and every pair of coefficients compares equal.
 -- Definitions only.
-use Rattle.std.specs.Prelude.{ℕ, Bool, ◌&&◌, cond, List, eqb, length, Float}
+use Rattle.std.specs.Prelude.{ℕ, Bool, ◌&&◌, List, eqb, length, Float, Result, Ok, Err}
 use Rattle.std.specs.Float.Ieee.{eq}
 use Rattle.vector.specs.Lists.{el, every}
+use Rattle.stepping.specs.declared.Refusal.{Refusal}
 use Rattle.stepping.specs.Refusals.{unless_refused}
 use Rattle.tableau.specs.declared.Counts.{Counts}
-use Rattle.tableau.specs.declared.Sameness.{Sameness}
-use Rattle.tableau.specs.declared.Sameness.TheVariants.{Same, Other, Refused}
 use Rattle.tableau.specs.Tableau.{Tableau}
 use Rattle.tableau.specs.File.{tableau_of, check}
 
@@ -27,5 +26,5 @@ same_tableau t u =
     same_counts t.counts u.counts && every (length t.coefficients) (alike_at t.coefficients u.coefficients)
 
 -- the refusal of the first file, then that of the second, then the comparison
-unfoldable pub same : List ℕ → List ℕ → Sameness
-same x y = unless_refused Refused (check x) (unless_refused Refused (check y) (cond (same_tableau (tableau_of x) (tableau_of y)) Same Other))
+unfoldable pub same : List ℕ → List ℕ → Result Bool Refusal
+same x y = unless_refused Err (check x) (unless_refused Err (check y) (Ok (same_tableau (tableau_of x) (tableau_of y))))

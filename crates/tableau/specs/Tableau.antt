@@ -9,7 +9,7 @@
 --   b[i]            m_i: how much of stage i goes into the new state
 --   btilde[i]       how much of stage i goes into the estimate of the error; btilde may be absent
 --
--- They are one list, in this order and without gaps, with a and coupling row by row (the scope paper, Tableau file). Definitions only.
+-- They are one list, in this order and without gaps, with a and coupling row by row. Definitions only.
 use Rattle.std.specs.Prelude.{ℕ, zero, suc, ◌+◌, Bool, ◌&&◌, cond, List, leb, ltb, eqb, length, Float}
 use Rattle.std.specs.Float.{nan}
 use Rattle.std.specs.Float.Ieee.Scale.{finite}

@@ -2,20 +2,22 @@
 -- spacing's minimum are zeros they are one value. Assumes nothing.
 use mathlib.Core.Path.{◌≡◌}
 use mathlib.Core.Bool.{true, false}
+use Rattle.std.specs.Prelude.{Ok}
 use lib.Ieee.{Float, binary64, lt, le, eq}
 use lib.Ieee.Fits.{mul-fits}
 use Rattle.float.specs.Operators.{◌⊗◌, 𝟎}
 use Rattle.float.specs.Methods.{abs, max_num}
 use Rattle.float.proofs.Cases.{or_left, or_right}
 use Rattle.float.proofs.Zeros.{zeros_same, abs_plain, above_plain, max_plain, mul_plain}
+use Rattle.stepping.specs.declared.Refusal.TheVariants.{NonFinite, Direction}
 use Rattle.stepping.proofs.Refusals.{passed}
 use Rattle.time_difference.specs.declared.TimeDifferencePolicy.{TimeDifferencePolicy}
 use Rattle.time_difference.specs.Policy.{out_of_range, refusal}
 
-module _ (p : TimeDifferencePolicy) (time step : Float) (fit : refusal p time step ≡ 0) where
+module _ (p : TimeDifferencePolicy) (time step : Float) (fit : refusal p time step ≡ Ok tt) where
   right : out_of_range p step ≡ false
   unfolding refusal
-  right = (passed 3 (out_of_range p step) _ (passed 1 _ _ fit).1).0
+  right = (passed Direction (out_of_range p step) _ (passed NonFinite _ _ fit).1).0
 
   pub record Settings : Type 0 where
     pub scale : le p.scale 𝟎 ≡ false

@@ -1,4 +1,3 @@
 -- Laws that the proofs cite.
 mod Neighbours
-mod Turns
 pub mod Choice

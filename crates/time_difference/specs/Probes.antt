@@ -1,14 +1,13 @@
 -- Where a one-sided difference quotient in time is probed, and the quotient, in IEEE 754 binary64: at the time plus a spacing and plus twice the
 -- spacing, or at the next doubles where rounding leaves no spacing. Definitions only.
-use Rattle.std.specs.Prelude.{◌+◌, ◌-◌, Bool, ◌&&◌, ◌||◌, cond, Float}
-use Rattle.std.specs.Bool.{beq}
+use Rattle.std.specs.Prelude.{◌+◌, ◌-◌, Bool, ◌&&◌, ◌||◌, cond, Float, Option, Result, Ok, Err}
+use Rattle.std.specs.Bool.{beq, then_some}
 use Rattle.std.specs.Float.{binary64}
 use Rattle.std.specs.Float.Ieee.{lt, le, eq, to_bits, of_bits}
 use Rattle.std.specs.Float.Ieee.Scale.{finite}
 use Rattle.float.specs.Operators.{◌⊕◌, ◌⊖◌, ◌⊗◌, ◌⊘◌, 𝟎, 𝟐}
-use Rattle.stepping.specs.Refusals.{time_resolution}
-use Rattle.time_difference.specs.declared.Probes.{Probes}
-use Rattle.time_difference.specs.declared.Probes.TheVariants.{One, Two, Refused}
+use Rattle.stepping.specs.declared.Refusal.{Refusal}
+use Rattle.stepping.specs.declared.Refusal.TheVariants.{TimeResolution}
 
 -- the next double in a direction: of a zero the least double with the direction's sign; else the next bit pattern, up where the value lies on
 -- the direction's side of 0 and down where it does not
@@ -42,12 +41,11 @@ abbrev pub reached : Float → Float → Float → Bool
 reached direction endpoint second = le 𝟎 (ahead direction endpoint second) && finite second
 
 -- 5 where the first probe misses; the second only where it is reached
-unfoldable pub placed : Float → Float → Float → Float → Probes
+unfoldable pub placed : Float → Float → Float → Float → Result (Float × Option Float) Refusal
 placed time direction endpoint spacing =
     let first = first_probe time direction spacing in
     let second = second_probe time direction spacing first in
-    cond (missed time direction endpoint first) (Refused time_resolution)
-    (cond (reached direction endpoint second) (Two first second) (One first))
+    cond (missed time direction endpoint first) (Err TimeResolution) (Ok (first, then_some (reached direction endpoint second) second))
 
 -- the difference quotient over the distance d
 abbrev pub slope : Float → Float → Float → Float

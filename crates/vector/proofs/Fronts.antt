@@ -1,9 +1,10 @@
 -- A list whose first k elements are replaced by as many others: `p ++ drop k w`. Assumes nothing.
+use Rattle.std.proofs.lemmas.Grind.{common_steps}
 use Prim.Native.Nat.{ℕ, zero, suc}
 use native.Mathlib.Omega.{arith}
-use mathlib.Core.Path.{◌≡◌, refl, ap, ◌∙◌}
+use mathlib.Core.Path.{◌≡◌, refl, ap}
 use mathlib.Core.List.{List, [], ◌∷◌, ◌++◌}
-use lib.ListN.{length, take, drop, length-append, length-take, length-drop}
+use lib.ListN.{length, take, drop, length-take}
 
 module _ {A : Type 0} where
   pub length_front : (k : ℕ) (v w : List A) → length v ≡ length w → length (take k v) ≡ length (take k w)
@@ -27,4 +28,4 @@ module _ {A : Type 0} where
   drop_front (suc k) (y ∷ w) (x ∷ p) h = drop_front k w p (omega arith)
 
   pub length_replaced : (k : ℕ) (w p : List A) → length p ≡ length (take k w) → length (p ++ drop k w) ≡ length w
-  length_replaced k w p h = length-append p (drop k w) ∙ simp (h, length-take, length-drop) (omega arith)
+  length_replaced k w p h = grind (arith, common_steps)

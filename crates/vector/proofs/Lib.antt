@@ -5,4 +5,5 @@ pub mod Fronts
 pub mod Parts
 pub mod Matrices
 pub mod Columns
-mod Four
+pub mod Loops
+mod Fours

@@ -1,17 +1,20 @@
 -- Lists that are given by their elements, tests of each element, and loops that make or test one more. Assumes nothing.
-use Prim.Native.Nat.{ℕ, zero, suc, ◌+◌, ◌-◌, ◌<◌, ◌≤◌}
+use Rattle.std.proofs.lemmas.Grind.{common_steps}
+use Prim.Native.Nat.{ℕ, zero, suc, ◌+◌, ◌<◌, ◌≤◌}
 use native.Mathlib.Numerals.{add-one}
 use native.Mathlib.Omega.{arith}
 use mathlib.Core.Path.{◌≡◌, refl, sym, ap, ◌∙◌}
 use mathlib.Core.Bool.{Bool, true, false, ◌&&◌}
-use mathlib.Core.List.{List, [], ◌∷◌, ◌++◌, append_assoc, append-nil}
+use mathlib.Core.List.{List, [], ◌∷◌, ◌++◌, append_assoc}
 use lib.Dec.{eqb}
-use lib.ListN.{length, get_or, set, drop, replicate, length-append, length-replicate, get_or-replicate, get_or-append, drop_of_length-le}
-use lib.Seq.{get_or_at, get_or-drop, get_or-append-add, set_at, drop-cons, ext_get_or}
+use lib.ListN.{length, get_or, set, take, drop, replicate, length-append, length-replicate, get_or-replicate, get_or-append}
+use lib.Seq.{get_or_at, set_at, drop-cons, ext_get_or}
 use lib.Ieee.{Float}
 use lib.Ieee.Scale.{finite}
 use borrow.Author.Tests.{eqb-true, eqb-false}
 use Rattle.float.proofs.Cases.{by, and_no, and_no_right, and_left, and_right}
+use Rattle.std.specs.List.{list_all}
+use Rattle.std.proofs.lemmas.List.Folds.{list_all_more}
 use Rattle.vector.specs.Lists.{el, table, every, all_finite}
 
 -- ---- table
@@ -47,40 +50,25 @@ module _ {A : Type 0} where
       ext_get_or v (table (λ j. v) n) (replicate n v) (length-table (λ j. v) n ∙ sym (length-replicate n v))
       (λ i k. let h : i < n = omega (arith, length-table (λ j. v) n) in table_at v (λ j. v) n i h ∙ sym (get_or-replicate n i v v h))
 
-  -- a loop that makes a list from the front: the first i elements are made, and the rest is as it was
-  pub none_made : (f : ℕ → A) (x : List A) → x ≡ table f 0 ++ drop 0 x
-  unfolding table
-  none_made f x = refl
-
   pub one_made : (f : ℕ → A) (i : ℕ) (x made : List A) {v : A} → i < length x → made ≡ table f i ++ drop i x → v ≡ f i → set made i v ≡ table f (i + 1) ++ drop (i + 1) x
   unfolding table
   one_made f i x made {v} h e k =
       rw (e, add-one, drop-cons x i v)
       (set_at (table f i) (get_or x i v) (drop (suc i) x) v i (length-table f i) ∙ rw (k, append_assoc))
 
-  pub all_made : (f : ℕ → A) (i : ℕ) (x made : List A) (n : ℕ) → length x ≤ i → i ≡ n → made ≡ table f i ++ drop i x → made ≡ table f n
-  all_made f i x made n h q e = e ∙ ap (λ (l : List A). table f i ++ l) (drop_of_length-le x {i = i} h) ∙ append-nil (table f i) ∙ ap (table f) q
-
   -- what is not made yet is as it was
   pub not_made : (d : A) (f : ℕ → A) (i j : ℕ) (x made : List A) → i ≤ j → made ≡ table f i ++ drop i x → get_or made j d ≡ get_or x j d
-  not_made d f i j x made h e =
-      let k : length (table f i) + (j - i) ≡ j = omega (arith, length-table f i) in
-      let m : i + (j - i) ≡ j = omega arith in
-      ap (λ (l : List A). get_or l j d) e
-      ∙ ap (λ (q : ℕ). get_or (table f i ++ drop i x) q d) (sym k)
-      ∙ get_or-append-add (table f i) (drop i x) (j - i) d
-      ∙ get_or-drop i x (j - i) d
-      ∙ ap (λ (q : ℕ). get_or x q d) m
+  not_made d f i j x made h e = grind (arith, common_steps, length-table)
 
 -- ---- every
 pub every_none : (p : ℕ → Bool) → every 0 p ≡ true
 unfolding every
 every_none p = refl
 
--- one more turn of a loop that gathers tests
-pub every_more : (p : ℕ → Bool) (i : ℕ) {r ok b : Bool} → r ≡ (ok && b) → ok ≡ every i p → b ≡ p i → r ≡ every (i + 1) p
+-- one more test
+pub every_next : (p : ℕ → Bool) (i : ℕ) → every (i + 1) p ≡ (every i p && p i)
 unfolding every
-every_more p i e f g = rw add-one (e ∙ rw (f, g))
+every_next p i = rw add-one refl
 
 -- one more turn of a loop that goes on while the tests hold
 pub every_still : (p : ℕ → Bool) (i : ℕ) → every i p ≡ true → p i ≡ true → every (i + 1) p ≡ true
@@ -113,6 +101,16 @@ pub every_same : (p q : ℕ → Bool) (n : ℕ) → ((i : ℕ) → i < n → p i
 unfolding every
 every_same p q zero h = refl
 every_same p q (suc n) h = rw (every_same p q n (λ i l. h i (omega arith)), h n (omega arith))
+
+-- std's word for the same test of a whole list
+every_front : {A : Type 0} (p : A → Bool) (x : List A) (d : A) (i : ℕ) → i ≤ length x → every i (λ j. p (get_or x j d)) ≡ list_all p (take i x)
+unfolding every
+every_front p x d zero h = refl
+every_front p x d (suc i) h =
+    ap (λ (b : Bool). b && p (get_or x i d)) (every_front p x d i (omega arith)) ∙ sym (list_all_more p x i d (omega arith)) ∙ rw add-one refl
+
+pub every_all : {A : Type 0} (p : A → Bool) (x : List A) (d : A) → every (length x) (λ j. p (get_or x j d)) ≡ list_all p x
+every_all p x d = grind (arith, common_steps, every_front)
 
 -- ---- each element is finite
 pub finite_at : (x : List Float) (i : ℕ) → all_finite x ≡ true → i < length x → finite (el x i) ≡ true

@@ -1,11 +1,12 @@
 -- `part`: its length and its elements; a part that a store has made, and one that it has left. Assumes nothing.
+use Rattle.std.proofs.lemmas.Grind.{common_steps}
 use Prim.Native.Nat.{ℕ, ◌+◌, ◌<◌, ◌≤◌}
 use native.Mathlib.Omega.{arith}
 use mathlib.Core.Path.{◌≡◌, sym, ap, ◌∙◌}
 use mathlib.Core.List.{List, ◌++◌}
-use mathlib.Core.Logic.{◌⊎◌, inl, inr, ⊎_elim}
-use lib.ListN.{length, take, drop, get_or, length-drop}
-use lib.Seq.{get_or-take, get_or-drop, length-take-le, ext_get_or, take-add, take_all, drop-drop}
+use mathlib.Core.Logic.{◌⊎◌}
+use lib.ListN.{length, take, drop, get_or}
+use lib.Seq.{ext_get_or, take-add, take_all, drop-drop}
 use Rattle.vector.specs.Lists.{table}
 use Rattle.vector.specs.Parts.{part, puts}
 use Rattle.vector.proofs.Lists.{length-table, table_at, table_own}
@@ -13,10 +14,10 @@ use Rattle.vector.proofs.Stores.{length-puts, puts_left, puts_held}
 
 module _ {A : Type 0} where
   pub length_part : (at n : ℕ) (w : List A) → at + n ≤ length w → length (part at n w) ≡ n
-  length_part at n w h = length-take-le n (drop at w) (simp length-drop (omega arith))
+  length_part at n w h = grind (arith, common_steps)
 
   pub part_at : (d : A) (at n : ℕ) (w : List A) (i : ℕ) → i < n → get_or (part at n w) i d ≡ get_or w (at + i) d
-  part_at d at n w i h = get_or-take n (drop at w) i d h ∙ get_or-drop at w i d
+  part_at d at n w i h = grind (arith, common_steps)
 
   -- a part and the one right after it
   pub part_joined : (at n m : ℕ) (w : List A) → part at (n + m) w ≡ part at n w ++ part (at + n) m w
@@ -25,18 +26,12 @@ module _ {A : Type 0} where
   -- a part given by its elements
   pub part-table : (d : A) (at n : ℕ) (w : List A) → at + n ≤ length w → part at n w ≡ table (λ i. get_or w (at + i) d) n
   part-table d at n w h =
-      let f : ℕ → A = λ i. get_or w (at + i) d in
-      ext_get_or d (part at n w) (table f n) (length_part at n w h ∙ sym (length-table f n))
-      (λ i q. let k : i < n = omega (arith, length_part at n w h) in part_at d at n w i k ∙ sym (table_at d f n i k))
+      ext_get_or d _ _ (grind (arith, common_steps, length-table)) (λ i q. grind (arith, common_steps, length_part, part_at, table_at))
 
   -- what was stored, read back
   pub part-puts : (w : List A) (at : ℕ) (f : ℕ → A) (n : ℕ) (d : A) → at + n ≤ length w → part at n (puts w at f n) ≡ table f n
   part-puts w at f n d h =
-      let v = puts w at f n in
-      let k : at + n ≤ length v = omega (arith, length-puts w at f n) in
-      ext_get_or d (part at n v) (table f n) (length_part at n v k ∙ sym (length-table f n))
-      (λ i q. let l : i < n = omega (arith, length_part at n v k) in
-      part_at d at n v i l ∙ puts_held d w at f n i h l ∙ sym (table_at d f n i l))
+      ext_get_or d _ _ (grind (arith, common_steps, length-table, length-puts)) (λ i q. grind (arith, common_steps, length-puts, length_part, part_at, puts_held, table_at))
 
   pub part_stored : (w : List A) (at : ℕ) (x : List A) (n : ℕ) (d : A) → length x ≡ n → at + n ≤ length w → part at n (puts w at (λ j. get_or x j d) n) ≡ x
   part_stored w at x n d h l = part-puts w at (λ j. get_or x j d) n d l ∙ table_own d x n h
@@ -48,10 +43,4 @@ module _ {A : Type 0} where
   -- a part beside the store
   pub part_left : (w : List A) (at : ℕ) (f : ℕ → A) (n a m : ℕ) (d : A) → a + m ≤ length w → (a + m ≤ at) ⊎ (at + n ≤ a) → part a m (puts w at f n) ≡ part a m w
   part_left w at f n a m d h o =
-      let v = puts w at f n in
-      let k : a + m ≤ length v = omega (arith, length-puts w at f n) in
-      ext_get_or d (part a m v) (part a m w) (length_part a m v k ∙ sym (length_part a m w h))
-      (λ i q. let l : i < m = omega (arith, length_part a m v k) in
-      part_at d a m v i l
-      ∙ puts_left d w at f n (a + i) (⊎_elim {C = (a + i < at) ⊎ (at + n ≤ a + i)} (λ b. inl (omega arith)) (λ b. inr (omega arith)) o)
-      ∙ sym (part_at d a m w i l))
+      ext_get_or d _ _ (grind (arith, common_steps, length-puts)) (λ i q. grind (arith, common_steps, length-puts, length_part, part_at, puts_left))

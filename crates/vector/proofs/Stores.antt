@@ -1,18 +1,21 @@
 -- `puts`: its length, what it leaves, what it holds, and one more store of a loop; the length of `puts_column`. Assumes nothing.
+use Rattle.std.proofs.lemmas.Grind.{common_steps}
 use Prim.Native.Nat.{ℕ, zero, suc, ◌+◌, ◌-◌, ◌<◌, ◌≤◌}
 use native.Mathlib.Omega.{arith}
 use native.Mathlib.Numerals.{add-one}
-use native.Mathlib.Nat.{add-zero, zero-add, add-suc}
+use native.Mathlib.Nat.{add-zero, add-suc}
 use mathlib.Core.Path.{◌≡◌, refl, sym, ap, ◌∙◌}
 use mathlib.Core.Bool.{cond}
-use mathlib.Core.List.{List, [], ◌∷◌, ◌++◌}
+use mathlib.Core.List.{List}
 use mathlib.Core.Logic.{◌⊎◌, inl, inr, ⊎_elim}
-use lib.ListN.{length, take, drop, get_or, set, length-set, length-append, length-drop, get_or-append}
-use lib.Seq.{sets, set-get_or, set-set, set_comm, get_or-set_same, get_or-set_other, get_or-take, get_or-drop, get_or-append-add, length-take-le, ext_get_or}
+use lib.ListN.{length, get_or, set, length-set}
+use lib.Seq.{set-get_or, set-set, set_comm, get_or-set_same, get_or-set_other, ext_get_or}
 use lib.Dec.{eqb, ltb}
 use borrow.Author.Tests.{eq-eqb, ne_eqb, eqb-true, eqb-false, ltb-true, ltb-false}
-use borrow.Rule.Slice.PartMut.{put_mid, post_of}
+use borrow.Rule.Slice.PartMut.{put_mid}
 use Rattle.float.proofs.Cases.{yes, no, by}
+use lib.Ieee.{Float, nan}
+use Rattle.vector.specs.Lists.{el}
 use Rattle.vector.specs.Parts.{puts, puts_column}
 
 module _ {A : Type 0} where
@@ -53,8 +56,7 @@ module _ {A : Type 0} where
 
   -- what a loop reads and has not written: ahead of what it writes, or before all of that
   pub puts_ahead : (d : A) (w : List A) (at : ℕ) (f : ℕ → A) (n k a : ℕ) → k < n → (a + n ≤ at) ⊎ (at ≤ a) → get_or (puts w at f k) (a + k) d ≡ get_or w (a + k) d
-  puts_ahead d w at f n k a l h =
-      puts_left d w at f k (a + k) (⊎_elim {C = (a + k < at) ⊎ (at + k ≤ a + k)} (λ q. inl (omega arith)) (λ q. inr (omega arith)) h)
+  puts_ahead d w at f n k a l h = grind (arith, common_steps, puts_left)
 
   -- values that agree are one store
   pub puts_same : (w : List A) (at : ℕ) (f g : ℕ → A) (n : ℕ) → ((j : ℕ) → j < n → f j ≡ g j) → puts w at f n ≡ puts w at g n
@@ -106,10 +108,6 @@ module _ {A : Type 0} where
       ∙ set-set (puts (puts w at f n) at g n) (at + n) (f n) (g n)
       ∙ ap (λ (v : List A). set v (at + n) (g n)) (puts_again w at f g n)
 
-  -- what has been stored, stored again
-  pub puts_kept : (w : List A) (at : ℕ) (f : ℕ → A) (n : ℕ) {v : List A} → v ≡ puts w at f n → v ≡ puts v at f n
-  puts_kept w at f n e = e ∙ sym (puts_again w at f f n) ∙ ap (λ (z : List A). puts z at f n) (sym e)
-
   -- a store right after another
   pub puts_join : (w : List A) (at : ℕ) (f : ℕ → A) (m : ℕ) (g : ℕ → A) (n : ℕ) → ((j : ℕ) → j < n → g j ≡ f (m + j)) → puts (puts w at f m) (at + m) g n ≡ puts w at f (m + n)
   unfolding puts
@@ -118,19 +116,10 @@ module _ {A : Type 0} where
       let e : at + m + n ≡ at + (m + n) = omega arith in
       rw (add-suc, puts_join w at f m g n (λ j k. h j (omega arith)), h n (omega arith), e)
 
-  -- a loop that stores from the front on: its next store, and its next n
-  pub front_more : (w : List A) (f : ℕ → A) (k : ℕ) → set (puts w 0 f k) k (f k) ≡ puts w 0 f (k + 1)
-  front_more w f k = ap (λ (i : ℕ). set (puts w 0 f k) i (f k)) (sym (zero-add k)) ∙ puts_more w 0 f k refl
-
-  pub front_join : (w : List A) (f : ℕ → A) (k n : ℕ) → puts (puts w 0 f k) k (λ j. f (k + j)) n ≡ puts w 0 f (k + n)
-  front_join w f k n = ap (λ (i : ℕ). puts (puts w 0 f k) i (λ j. f (k + j)) n) (sym (zero-add k)) ∙ puts_join w 0 f k (λ j. f (k + j)) n (λ j h. refl)
-
   -- a loop that stores in two places, the first before the second: its next stores
   pub puts_both : (w : List A) (a b : ℕ) (f g : ℕ → A) (k : ℕ) {u v : A} → a + k < b → u ≡ f k → v ≡ g k
       → set (set (puts (puts w a f k) b g k) (a + k) u) (b + k) v ≡ puts (puts w a f (k + 1)) b g (k + 1)
-  puts_both w a b f g k {u} {v} h p q =
-      ap (λ (x : List A). set x (b + k) v) (set-puts (puts w a f k) b g k (a + k) u (inl h) ∙ ap (λ (x : List A). puts x b g k) (puts_more w a f k p))
-      ∙ puts_more (puts w a f (k + 1)) b g k q
+  puts_both w a b f g k {u} {v} h p q = grind (arith, common_steps, set-puts, puts_more)
 
   -- stores elsewhere, before or after
   pub puts_past : (w : List A) (a : ℕ) (f : ℕ → A) (m b : ℕ) (g : ℕ → A) (n : ℕ) → b + n ≤ a → puts (puts w a f m) b g n ≡ puts (puts w b g n) a f m
@@ -139,44 +128,18 @@ module _ {A : Type 0} where
   puts_past w a f m b g (suc n) h =
       ap (λ (v : List A). set v (b + n) (g n)) (puts_past w a f m b g n (omega arith)) ∙ set-puts (puts w b g n) a f m (b + n) (g n) (inl (omega arith))
 
-  -- four stores side by side
-  pub four_puts : (w : List A) (at : ℕ) (f : ℕ → A) {v : A} → v ≡ f 0 → set (set (set (set w at v) (at + 1) (f 1)) (at + 2) (f 2)) (at + 3) (f 3) ≡ puts w at f 4
-  unfolding puts
-  four_puts w at f e = rw (e, add-zero)
-
-  -- a loop that stores in two places, the first before the second: its next n stores in each
-  pub puts_both_join : (w : List A) (a b : ℕ) (f g : ℕ → A) (k : ℕ) (p q : ℕ → A) (n : ℕ) → a + (k + n) ≤ b → ((j : ℕ) → j < n → p j ≡ f (k + j)) → ((j : ℕ) → j < n → q j ≡ g (k + j))
-      → puts (puts (puts (puts w a f k) b g k) (a + k) p n) (b + k) q n ≡ puts (puts w a f (k + n)) b g (k + n)
-  puts_both_join w a b f g k p q n h d e =
-      ap (λ (v : List A). puts v (b + k) q n)
-      (puts_past (puts w a f k) b g k (a + k) p n (omega arith) ∙ ap (λ (v : List A). puts v b g k) (puts_join w a f k p n d))
-      ∙ puts_join (puts w a f (k + n)) b g k q n e
-
   -- ---- a part that was lent, from a on and k long, and has come back as ys: `put_mid a k xs ys`
   pub mid_before : (d : A) (a k : ℕ) (xs ys : List A) (j : ℕ) → a ≤ length xs → j < a → get_or (put_mid a k xs ys) j d ≡ get_or xs j d
-  mid_before d a k xs ys j h q =
-      get_or-append (take a xs) (ys ++ post_of a k xs) d j (omega (arith, length-take-le a xs h)) ∙ get_or-take a xs j d q
+  mid_before d a k xs ys j h q = grind (arith, common_steps)
 
   pub mid_inside : (d : A) (a k : ℕ) (xs ys : List A) (j : ℕ) → a ≤ length xs → j < length ys → get_or (put_mid a k xs ys) (a + j) d ≡ get_or ys j d
-  mid_inside d a k xs ys j h q =
-      let e : a + j ≡ length (take a xs) + j = omega (arith, length-take-le a xs h) in
-      ap (λ (i : ℕ). get_or (put_mid a k xs ys) i d) e ∙ get_or-append-add (take a xs) (ys ++ post_of a k xs) j d ∙ get_or-append ys (post_of a k xs) d j q
+  mid_inside d a k xs ys j h q = grind (arith, common_steps)
 
   pub mid_after : (d : A) (a k : ℕ) (xs ys : List A) (j : ℕ) → a ≤ length xs → length ys ≡ k → a + k ≤ j → get_or (put_mid a k xs ys) j d ≡ get_or xs j d
-  mid_after d a k xs ys j h l q =
-      let r = j - (a + k) in
-      let e : j ≡ length (take a xs) + (length ys + r) = omega (arith, length-take-le a xs h) in
-      let f : a + (k + r) ≡ j = omega arith in
-      ap (λ (i : ℕ). get_or (put_mid a k xs ys) i d) e
-      ∙ get_or-append-add (take a xs) (ys ++ post_of a k xs) (length ys + r) d
-      ∙ get_or-append-add ys (post_of a k xs) r d
-      ∙ get_or-drop k (drop a xs) r d
-      ∙ get_or-drop a xs (k + r) d
-      ∙ ap (λ (i : ℕ). get_or xs i d) f
+  mid_after d a k xs ys j h l q = grind (arith, common_steps)
 
   pub length_mid : (a k : ℕ) (xs ys : List A) → a + k ≤ length xs → length ys ≡ k → length (put_mid a k xs ys) ≡ length xs
-  length_mid a k xs ys h l =
-      omega (arith, length-append (take a xs) (ys ++ post_of a k xs), length-append ys (post_of a k xs), length-take-le a xs (omega arith), length-drop k (drop a xs), length-drop a xs)
+  length_mid a k xs ys h l = grind (arith, common_steps)
 
   -- it is a store
   pub mid_puts : (d : A) (a k : ℕ) (xs ys : List A) → a + k ≤ length xs → length ys ≡ k → put_mid a k xs ys ≡ puts xs a (λ j. get_or ys j d) k
@@ -196,10 +159,6 @@ module _ {A : Type 0} where
       (λ t₂. let v : a + k ≤ j = ltb-false j (a + k) t₂ in
       mid_after d a k xs ys j (omega arith) l v ∙ sym (puts_left d xs a f k j (inr v)))))
 
-  pub mid_stored : (d : A) (w x : List A) (at k : ℕ) {y : List A} → at + length x ≤ length w → k ≡ length x → y ≡ x → put_mid at k w y ≡ puts w at (λ j. get_or x j d) (length x)
-  mid_stored d w x at k {y} h e q = rw (q, e) (mid_puts d at (length x) w x h refl)
-
--- ---- a run of stores, then another right after it
-pub sets_more : {A : Type 0} (l : List A) (i : ℕ) (vs ws : List A) → sets (sets l i vs) (i + length vs) ws ≡ sets l i (vs ++ ws)
-sets_more {A} l i [] ws = ap (λ (n : ℕ). sets l n ws) (add-zero i)
-sets_more {A} l i (v ∷ vs) ws = ap (λ (n : ℕ). sets (sets (set l i v) (suc i) vs) n ws) (omega arith) ∙ sets_more (set l i v) (suc i) vs ws
+-- a part that came back, in the form in which a tactic applies it
+pub mid_el : (w x : List Float) (at k : ℕ) → at + k ≤ length w → length x ≡ k → put_mid at k w x ≡ puts w at (el x) k
+mid_el w x at k h e = mid_puts nan at k w x h e

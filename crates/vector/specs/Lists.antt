@@ -21,3 +21,7 @@ every (suc n) p = every n p && p n
 unfoldable pub all_finite : List Float → Bool
 unfolding every
 all_finite x = every (length x) (λ j. finite (el x j))
+
+-- each of four is finite
+abbrev pub four_finite : List Float → Bool
+four_finite x = finite (el x 0) && finite (el x 1) && finite (el x 2) && finite (el x 3)

@@ -1,6 +1,5 @@
 -- What the definitions of the stepper answer on closed inputs.
 pub mod Opened
-pub mod Seeing
 pub mod Pond
 pub mod Effective
 pub mod TwoStage

@@ -1,0 +1,2 @@
+-- Laws that dependents may cite.
+pub mod Counts
