@@ -13,10 +13,6 @@ kind_of (Ok Asked) = 1
 kind_of (Ok Shown) = 2
 kind_of (Ok Done) = 3
 
-unfoldable pub number_of : Result code.Answer Refusal → ℕ
-number_of (Err refusal) = refusals.number refusal
-number_of (Ok answer) = 0
-
 -- of the definitions' answer; a reader's kind is 4
 unfoldable pub kind_in : Answer → ℕ
 kind_in (refused refusal) = 0

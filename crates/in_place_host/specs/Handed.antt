@@ -3,7 +3,8 @@ use Rattle.std.specs.Prelude.{ℕ, cond, eqb, Result}
 use Rattle.stepping.specs.declared.Refusal.{Refusal}
 use Rattle.rosenbrock.specs.declared.Answer as code
 use Rattle.rosenbrock.specs.Stepper.{System, Next}
-use Rattle.in_place.specs.Numbers.{kind_of, number_of, kind_in, number_in}
+use Rattle.stepping.specs.Refusals.{number_of}
+use Rattle.in_place.specs.Numbers.{kind_of, kind_in, number_in}
 use Rattle.in_place_host.specs.declared.CallAnswer.{CallAnswer}
 
 -- of the code's answer

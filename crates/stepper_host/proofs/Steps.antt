@@ -11,7 +11,8 @@ use Rattle.rosenbrock.specs.declared.Answer.TheVariants.{Asked, Shown, Done}
 use Rattle.rosenbrock.specs.declared.Outcome.{Outcome}
 use Rattle.refusals.specs.Answers.{lending}
 use Rattle.rosenbrock.specs.Outcomes.{answer_by, next_of, AfterMaking, made_by}
-use Rattle.in_place.specs.Numbers.{kind_of, number_of, kind_in, number_in}
+use Rattle.stepping.specs.Refusals.{number_of}
+use Rattle.in_place.specs.Numbers.{kind_of, kind_in, number_in}
 use Rattle.stepper_host.specs.declared.MakingAnswer.{MakingAnswer}
 use Rattle.stepper_host.specs.Handed.{of_answer, of_outcome, step_handed, as_numbers, making_handed, of_made, of_making, making_as_numbers}
 

@@ -2,7 +2,7 @@
 use Rattle.std.specs.Prelude.{false, Result, Ok, Err}
 use Rattle.float.specs.Operators.{𝟎}
 use Rattle.stepping.specs.declared.Refusal.{Refusal}
-use Rattle.stepping.specs.Refusals.{number}
+use Rattle.stepping.specs.Refusals.{number, number_of}
 use Rattle.rosenbrock.specs.declared.RosenbrockStepper.{RosenbrockStepper}
 use Rattle.rosenbrock.specs.declared.Answer as code
 use Rattle.rosenbrock.specs.declared.Outcome.{Outcome}
@@ -11,7 +11,7 @@ use Rattle.phases.specs.Phases.{fresh}
 use Rattle.statistics.specs.Counters.{no_statistics}
 use Rattle.rosenbrock.specs.Stepper.{Next, Made, not_made, made}
 use Rattle.rosenbrock.specs.Outcomes.{AfterMaking}
-use Rattle.in_place.specs.Numbers.{kind_of, number_of, kind_in, number_in}
+use Rattle.in_place.specs.Numbers.{kind_of, kind_in, number_in}
 use Rattle.stepper_host.specs.declared.StepperAnswer.{StepperAnswer}
 use Rattle.stepper_host.specs.declared.MakingAnswer.{MakingAnswer}
 
