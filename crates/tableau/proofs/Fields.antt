@@ -1,5 +1,5 @@
 -- The fields of a tableau, from the places at which the code reads them. Assumes nothing.
-use Prim.Native.Nat.{ℕ, ◌+◌, ◌*◌, ◌/◌, ◌<◌, ◌≤◌}
+use Prim.Native.Nat.{ℕ, ◌+◌, ◌*◌, ◌^◌, ◌<◌, ◌≤◌}
 use native.Mathlib.Omega.{arith}
 use mathlib.Core.Path.{◌≡◌, refl, sym, ap, ◌∙◌}
 use mathlib.Core.List.{List}
@@ -7,7 +7,7 @@ use lib.ListN.{length}
 use lib.Ieee.{binary64, of_bits, div}
 use borrow.Author.Tests.{lt-ltb, le-ltb}
 use Rattle.float.proofs.Cases.{yes, no}
-use Rattle.tableau.specs.Tableau.{Tableau, triangle, c_at, stages_of, of_part, a_of, coupling_of, c_of, d_of, b_of, btilde_of}
+use Rattle.tableau.specs.Tableau.{Tableau, triangle, nowhere, c_at, stages_of, of_part, a_of, coupling_of, c_of, d_of, b_of, btilde_of}
 use Rattle.tableau.specs.File.{coefficients_of, tableau_of}
 use Rattle.float.proofs.Laws.{nan_is}
 use Rattle.vector.specs.Lists.{el}
@@ -69,13 +69,13 @@ module _ (t : Tableau) (i : ℕ) {s : ℕ} (e : s ≡ stages_of t) (h : i < s) (
   pub coupling_row_is : {l m : ℕ} → l ≡ triangle s → m ≡ triangle i → el t.coefficients (1 + l + m + j) ≡ coupling_of t i j
   coupling_row_is {l} {m} f g = sym (of_part_is t (1 + l + m) i j k) ∙ coupling_is t i j e h f g
 
--- row i of a file where i is no stage: from `at` on, past the end
-module _ (file : List ℕ) (i : ℕ) {s : ℕ} (e : s ≡ stages_of (tableau_of file)) (h : s ≤ i) (j : ℕ) where
-  past : el (coefficients_of file) (length file / 8 + j) ≡ div binary64 (of_bits binary64 0) (of_bits binary64 0)
-  past = coefficient_past file (length file / 8 + j) (omega arith) ∙ sym nan_is
+-- row i of a file where i is no stage
+module _ (file : List ℕ) (short : length file < 2 ^ 63) (i : ℕ) {s : ℕ} (e : s ≡ stages_of (tableau_of file)) (h : s ≤ i) (j : ℕ) where
+  past : el (coefficients_of file) (nowhere + j) ≡ div binary64 (of_bits binary64 0) (of_bits binary64 0)
+  past = coefficient_past file (nowhere + j) (omega arith) ∙ sym nan_is
 
-  pub a_row_past : el (coefficients_of file) (length file / 8 + j) ≡ a_of (tableau_of file) i j
+  pub a_row_past : el (coefficients_of file) (nowhere + j) ≡ a_of (tableau_of file) i j
   a_row_past = past ∙ a_past (tableau_of file) i j e h
 
-  pub coupling_row_past : el (coefficients_of file) (length file / 8 + j) ≡ coupling_of (tableau_of file) i j
+  pub coupling_row_past : el (coefficients_of file) (nowhere + j) ≡ coupling_of (tableau_of file) i j
   coupling_row_past = past ∙ coupling_past (tableau_of file) i j e h

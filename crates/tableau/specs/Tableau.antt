@@ -10,7 +10,7 @@
 --   btilde[i]       how much of stage i goes into the estimate of the error; btilde may be absent
 --
 -- They are one list, in this order and without gaps, with a and coupling row by row. Definitions only.
-use Rattle.std.specs.Prelude.{ℕ, zero, suc, ◌+◌, Bool, ◌&&◌, cond, List, leb, ltb, eqb, length, Float}
+use Rattle.std.specs.Prelude.{ℕ, zero, suc, ◌+◌, ◌^◌, Bool, ◌&&◌, cond, List, leb, ltb, eqb, length, Float}
 use Rattle.std.specs.Float.{nan}
 use Rattle.std.specs.Float.Ieee.Scale.{finite}
 use Rattle.vector.specs.Lists.{el, every}
@@ -47,6 +47,17 @@ b_at s = d_at s + s
 
 abbrev pub btilde_at : ℕ → ℕ
 btilde_at s = b_at s + s
+
+-- where row i of a starts, and row i of coupling
+abbrev pub a_row_at : ℕ → ℕ
+a_row_at i = a_at + triangle i
+
+abbrev pub coupling_row_at : ℕ → ℕ → ℕ
+coupling_row_at s i = coupling_at s + triangle i
+
+-- past the end of every list that a file holds: a file has fewer than 2 ^ 63 bytes
+abbrev pub nowhere : ℕ
+nowhere = 2 ^ 60
 
 abbrev pub present : Counts → Bool
 present k = eqb k.btilde 1
@@ -90,12 +101,19 @@ of_part t start n i = cond (ltb i n) (el t.coefficients (start + i)) nan
 unfoldable pub gamma_of : Tableau → Float
 gamma_of t = el t.coefficients gamma_at
 
+-- where the i coefficients of row i start, and nowhere where i is no stage
+unfoldable pub a_row_of : Tableau → ℕ → ℕ
+a_row_of t i = cond (ltb i (stages_of t)) (a_row_at i) nowhere
+
+unfoldable pub coupling_row_of : Tableau → ℕ → ℕ
+coupling_row_of t i = let s = stages_of t in cond (ltb i s) (coupling_row_at s i) nowhere
+
 -- row i is a part of i coefficients; a NaN where i is no stage
 unfoldable pub a_of : Tableau → ℕ → ℕ → Float
-a_of t i j = cond (ltb i (stages_of t)) (of_part t (a_at + triangle i) i j) nan
+a_of t i j = cond (ltb i (stages_of t)) (of_part t (a_row_at i) i j) nan
 
 unfoldable pub coupling_of : Tableau → ℕ → ℕ → Float
-coupling_of t i j = let s = stages_of t in cond (ltb i s) (of_part t (coupling_at s + triangle i) i j) nan
+coupling_of t i j = let s = stages_of t in cond (ltb i s) (of_part t (coupling_row_at s i) i j) nan
 
 unfoldable pub c_of : Tableau → ℕ → Float
 c_of t i = let s = stages_of t in of_part t (c_at s) s i

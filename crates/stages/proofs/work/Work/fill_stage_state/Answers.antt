@@ -14,5 +14,5 @@ returns c =
     let w = c.args.self.now.cells.now in
     let n = c.args.self.now.layout.n in
     let a = a_of (tableau_of c.args.file.now) c.args.i in
-    let x = c.add_stages.ensures a (λ j r h p. search rules ∙ c.a_row-row.ensures.1 j h) in
+    let x = c.add_stages.ensures a (λ j r h p. search rules ∙ c.a_row-row.ensures.elements j h) in
     (summed_after w (stage_state_at n) n a (el c.args.state.now) c.args.i (omega arith) (omega arith) c.stage_state-to.ensures.0 c.requires.lengths c.put.ensures c.stage_state-to.ensures.0 refl x.0, x.1)
