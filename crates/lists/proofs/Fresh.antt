@@ -105,9 +105,9 @@ module _ (y : System) (time : Float) (state : List Float) (e : (stepped (reset t
   tests_passed = reset_passed y.stepper.fixed time state y.stepper.progress (trimmed (needed y.stepper.fixed) y.lent) (done_passed _ _ _ _ e)
 
   -- what it leaves
-  reset-result : result (reset time state) y ≡ restarted time state (trimmed (needed y.stepper.fixed) y.lent)
+  pub reset_result : result (reset time state) y ≡ restarted time state (trimmed (needed y.stepper.fixed) y.lent)
   unfolding stepped result called reset_of
-  reset-result = guarded_passed _ _ _ _ (done_passed _ _ _ _ e)
+  reset_result = guarded_passed _ _ _ _ (done_passed _ _ _ _ e)
 
   module _ (file : List ℕ) (policy : TimeDifferencePolicy) (b : FromMaking file policy y) (work : List Float) (pivots : List ℕ) (lw : length work ≡ length y.lent.work) (lp : length pivots ≡ length y.lent.pivots) where
     -- the memory that the new one is lent, and what the new one has fixed
@@ -134,8 +134,8 @@ module _ (y : System) (time : Float) (state : List Float) (e : (stepped (reset t
     same =
         record {
           fixed = fixed_same;
-          progress = ap (λ (o : Out). o.progress) reset-result;
-          memory = memory_after (reset time state) y ∙ ap (λ (o : Out). o.lent) reset-result ∙ cleared_same ∙ sym (made_memory file policy time lent);
+          progress = ap (λ (o : Out). o.progress) reset_result;
+          memory = memory_after (reset time state) y ∙ ap (λ (o : Out). o.lent) reset_result ∙ cleared_same ∙ sym (made_memory file policy time lent);
         }
 
     -- the new one is made

@@ -1,7 +1,12 @@
--- Demand3 has the theorems about lists, Lines those about one call; the others lead to them. Dependents may cite Steady too.
+-- EveryList has the theorems about lists, Accepting and Refused those about every call, Lines those about one; the others lead to them. Dependents may
+-- cite Steady too.
 mod Alike
 mod Fresh
 mod Booked
+mod Firsts
+mod Endings
+pub mod Accepting
+pub mod Refused
 pub mod Steady
-pub mod Demand3
+pub mod EveryList
 pub mod Lines

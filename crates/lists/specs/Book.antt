@@ -6,7 +6,7 @@ use Rattle.stepping.specs.declared.Refusal.{Refusal}
 use Rattle.stepping.specs.Time.{checked_time, endpoint_step}
 use Rattle.refusals.specs.Answers.{View, Answer, refused, asked, shown, told, done}
 use Rattle.rosenbrock.specs.Stepper.{Call, attempt, attempt_to, supply, fail, accept, reject, inject_derivative, reset, read}
-use Rattle.lists.specs.Run.{Accepted, Seen}
+use Rattle.lists.specs.Run.{Accepted}
 
 pub record Book : Type 0 where
   pub time : Float
@@ -63,10 +63,8 @@ kept c was_refused b = b
 kept c not_refused b = entered c b
 kept c (showed v) b = record (entered c b) { candidate = Some v.candidate }
 
--- the accepted times and states of the book, for calls and what was seen after each of them
-unfoldable pub accounts : Book → List Call → List Seen → List Accepted
-accounts b [] ss = []
+-- the accepted times and states of the book, for calls and what it is fed after each of them
+unfoldable pub accounts : Book → List Call → List Fed → List Accepted
+accounts b [] fs = []
 accounts b (c ∷ cs) [] = []
-accounts b (c ∷ cs) (s ∷ ss) =
-    let b' = kept c (fed s.answer) b in
-    record { time = b'.time; state = b'.state } ∷ accounts b' cs ss
+accounts b (c ∷ cs) (f ∷ fs) = let b' = kept c f b in record { time = b'.time; state = b'.state } ∷ accounts b' cs fs

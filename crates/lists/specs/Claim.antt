@@ -7,7 +7,7 @@ use Rattle.refusals.specs.Tests.{fit_tests}
 use Rattle.rosenbrock.specs.Stepper.{Call, reset, read, System, needed, trimmed, stepped, make, made}
 use Rattle.rosenbrock.specs.Readers.{Query}
 use Rattle.lists.specs.Run.{after, accepted_in, run}
-use Rattle.lists.specs.Book.{accounts, opened}
+use Rattle.lists.specs.Book.{accounts, fed, opened}
 
 -- Two steppers that differ in counters and in doubles beyond the needed work alone.
 pub record Same (y z : System) : Type 0 where
@@ -28,8 +28,8 @@ pub record Indistinguishable (file : List ℕ) (policy : TimeDifferencePolicy) (
   pub goes_on : run y rest ≡ run new rest
 
 pub record Holds (file : List ℕ) (policy : TimeDifferencePolicy) (time : Float) (lent : Lent) (y : System) (calls : List Call) : Type 0 where
-  -- after each call the accepted time and state are the book's
-  pub by_the_book : map (λ s. s.accepted) (run y calls) ≡ accounts (opened time lent.state) calls (run y calls)
+  -- after each call the accepted time and state are the book's, which is told of the answers only whether they refuse, and the step views
+  pub by_the_book : map (λ s. s.accepted) (run y calls) ≡ accounts (opened time lent.state) calls (map (λ s. fed s.answer) (run y calls))
   -- after each reset that was not refused the stepper is indistinguishable from a new one, whatever the new one's work and pivots held
   pub after_reset : (before rest : List Call) (time' : Float) (state' work' : List Float) (pivots' : List ℕ) → calls ≡ before ++ (reset time' state' ∷ rest)
       → (stepped (reset time' state') (after y before)).answer ≡ done
@@ -38,8 +38,8 @@ pub record Holds (file : List ℕ) (policy : TimeDifferencePolicy) (time : Float
       → Indistinguishable file policy time' (lending state' work' pivots') (stepped (reset time' state') (after y before)).system rest
 
 -- the one theorem: for every making that is not refused and every list of calls
-abbrev pub Demand3 : Type 0
-Demand3 = (file : List ℕ) (policy : TimeDifferencePolicy) (time : Float) (lent : Lent) (y : System) → make file policy time lent ≡ made y → (calls : List Call)
+abbrev pub EveryList : Type 0
+EveryList = (file : List ℕ) (policy : TimeDifferencePolicy) (time : Float) (lent : Lent) (y : System) → make file policy time lent ≡ made y → (calls : List Call)
     → Holds file policy time lent y calls
 
 -- ---- beside it

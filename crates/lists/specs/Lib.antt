@@ -1,3 +1,6 @@
 pub mod Run
 pub mod Book
 pub mod Claim
+pub mod Opening
+pub mod Accepting
+pub mod Refused

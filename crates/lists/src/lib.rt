@@ -1,12 +1,26 @@
 // Lists of calls: definitions (specs/) and the theorem about them (proofs/). Nothing is run here.
 #![tactic(auto)]
 
-ghost use Rattle.lists.specs.Claim.{Demand3, AlwaysFits, TailUntouched, ReadersChangeNothing};
+ghost use Rattle.lists.specs.Accepting.{OthersLeaveIt, AcceptTakesTheCandidate, ResetTakesBoth};
+ghost use Rattle.lists.specs.Claim.{EveryList, AlwaysFits, TailUntouched, ReadersChangeNothing};
+ghost use Rattle.lists.specs.Refused.{EveryRefusal};
 
 // What holds of every list of calls: it does nothing, and its contract is the theorem.
 pub fn every_list()
-    ensures by_the_book { Demand3 }
+    ensures by_the_book { EveryList }
     ensures always_fits { AlwaysFits }
     ensures tail_untouched { TailUntouched }
     ensures readers_change_nothing { ReadersChangeNothing }
+{}
+
+// When the accepted time and state change.
+pub fn accepted_changes()
+    ensures others_leave_it { OthersLeaveIt }
+    ensures accept_takes_the_candidate { AcceptTakesTheCandidate }
+    ensures reset_takes_both { ResetTakesBoth }
+{}
+
+// What a refused call leaves.
+pub fn every_refusal()
+    ensures changes_nothing_or_closes { EveryRefusal }
 {}

@@ -13,7 +13,7 @@ use Rattle.rosenbrock.proofs.Readers.{read_unchanged}
 use Rattle.refusals.proofs.Fitting.{fits_tests}
 use Rattle.lists.specs.Run.{after}
 use Rattle.lists.specs.Book.{opened}
-use Rattle.lists.specs.Claim.{Demand3, AlwaysFits, TailUntouched, ReadersChangeNothing}
+use Rattle.lists.specs.Claim.{EveryList, AlwaysFits, TailUntouched, ReadersChangeNothing}
 use Rattle.lists.proofs.Alike.{work_through, pivots_through}
 use Rattle.lists.proofs.Fresh.{made_is, made_long, from_making, from_making_after, indistinguishable}
 use Rattle.lists.proofs.Booked.{AllAgrees, idle_agrees, run_agrees}
@@ -24,8 +24,8 @@ begins : (file : List ℕ) (policy : TimeDifferencePolicy) (time : Float) (m : L
 unfolding made_of opened fresh cleared trimmed untrimmed
 begins file policy time m = idle_agrees _ _ _ _ refl refl refl
 
-pub demand_3 : Demand3
-demand_3 file policy time m y e calls =
+pub every_list : EveryList
+every_list file policy time m y e calls =
     let long = made_long file policy time m y e in
     record {
       by_the_book =
