@@ -1,5 +1,5 @@
--- EveryList has the theorems about lists, Accepting and Refused those about every call, Lines those about one; the others lead to them. Dependents may
--- cite Steady too.
+-- EveryList has the theorems about lists, Accepting, Refused and Telling those about every call, Lines those about one; the others lead to them.
+-- Dependents may cite Steady too.
 mod Alike
 mod Fresh
 mod Booked
@@ -7,6 +7,7 @@ mod Firsts
 mod Endings
 pub mod Accepting
 pub mod Refused
+pub mod Telling
 pub mod Steady
 pub mod EveryList
 pub mod Lines

@@ -4,3 +4,4 @@ pub mod Claim
 pub mod Opening
 pub mod Accepting
 pub mod Refused
+pub mod Telling

@@ -4,6 +4,7 @@
 ghost use Rattle.lists.specs.Accepting.{OthersLeaveIt, AcceptTakesTheCandidate, ResetTakesBoth};
 ghost use Rattle.lists.specs.Claim.{EveryList, AlwaysFits, TailUntouched, ReadersChangeNothing};
 ghost use Rattle.lists.specs.Refused.{EveryRefusal};
+ghost use Rattle.lists.specs.Telling.{ReadersTellTheAnswer};
 
 // What holds of every list of calls: it does nothing, and its contract is the theorem.
 pub fn every_list()
@@ -23,4 +24,9 @@ pub fn accepted_changes()
 // What a refused call leaves.
 pub fn every_refusal()
     ensures changes_nothing_or_closes { EveryRefusal }
+{}
+
+// What the readers tell after a call that shows a step view, or asks.
+pub fn readers_tell()
+    ensures tell_the_answer { ReadersTellTheAnswer }
 {}

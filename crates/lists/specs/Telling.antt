@@ -1,0 +1,55 @@
+-- The readers tell what the call before them answered: of a step view its entries, or the request. Definitions only.
+use Rattle.std.specs.Prelude.{◌≡◌, ◌≢◌, ℕ, ◌+◌, ◌*◌, cond, List, eqb, leb, length, Float}
+use Rattle.vector.specs.Parts.{part}
+use Rattle.stepping.specs.declared.Refusal.TheVariants.{Dimension, NoRequest, AttemptOpen}
+use Rattle.refusals.specs.Answers.{Request, View, Answer, refused, asked, shown, told, number, vector, request}
+use Rattle.rosenbrock.specs.Readers.{Query, the_request, the_time, the_state, the_copy, the_start, the_end, the_candidate, the_error, the_stages, the_rhs_stages, the_jacobian, the_time_partial, the_stage, the_rhs_stage, optional}
+use Rattle.rosenbrock.specs.Stepper.{Call, read, System, stepped}
+
+-- what each reader answers
+abbrev pub Readings : Type 0
+Readings = Query → Answer
+
+-- called on a stepper and its memory
+abbrev pub readings : System → Readings
+readings y q = (stepped (read q) y).answer
+
+-- a state copied into an output of k components
+unfoldable pub copied : ℕ → List Float → Answer
+copied k state = cond (eqb k (length state)) (told (vector state)) (refused Dimension)
+
+-- row i of rows of n components; refused where there are not so many, as at the step 0, where none is shown
+unfoldable pub row : ℕ → List Float → ℕ → Answer
+row n rows i = cond (leb (i * n + n) (length rows)) (told (vector (part (i * n) n rows))) (refused Dimension)
+
+-- Each reader of a step tells its entry of the view v, and time and state are those that the step starts from. Nothing is said of the derivative that may
+-- be cached, and of the counters: a view has neither.
+pub record TellView (v : View) (r : Readings) : Type 0 where
+  pub of_time : r the_time ≡ told (number v.start)
+  pub of_state : r the_state ≡ told (vector v.previous)
+  pub of_copy : (k : ℕ) → r (the_copy k) ≡ copied k v.previous
+  pub of_start : r the_start ≡ told (number v.start)
+  pub of_end : r the_end ≡ told (number v.end)
+  pub of_candidate : r the_candidate ≡ told (vector v.candidate)
+  pub of_error : r the_error ≡ told (optional v.error)
+  pub of_stages : r the_stages ≡ told (vector v.stages)
+  pub of_stage : (i : ℕ) → r (the_stage i) ≡ row (length v.previous) v.stages i
+  pub of_rhs_stages : r the_rhs_stages ≡ told (vector v.rhs_stages)
+  pub of_rhs_stage : (i : ℕ) → r (the_rhs_stage i) ≡ row (length v.previous) v.rhs_stages i
+  pub of_jacobian : r the_jacobian ≡ told (vector v.jacobian)
+  pub of_time_partial : r the_time_partial ≡ told (vector v.time_partial)
+  -- nothing is asked
+  pub of_request : r the_request ≡ refused NoRequest
+
+-- the request q alone is told
+pub record TellRequest (q : Request) (r : Readings) : Type 0 where
+  pub of_request : r the_request ≡ told (request q)
+  pub of_others : (k : Query) → k ≢ the_request → r k ≡ refused AttemptOpen
+
+-- after every call, whatever record and memory are
+pub record ReadersTell (c : Call) (y : System) : Type 0 where
+  pub the_view : (v : View) → (stepped c y).answer ≡ shown v → TellView v (readings (stepped c y).system)
+  pub the_request_asked : (q : Request) → (stepped c y).answer ≡ asked q → TellRequest q (readings (stepped c y).system)
+
+abbrev pub ReadersTellTheAnswer : Type 0
+ReadersTellTheAnswer = (c : Call) (y : System) → ReadersTell c y
