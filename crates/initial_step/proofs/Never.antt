@@ -1,4 +1,4 @@
--- The last two tests of the first step never hold: the guess is a finite number above 0. So its refusals are 1, 2, 4 and 9. And the maximum is no
+-- The guess of a first step that is not refused is a finite number above 0: no test of the guess could refuse one. And the maximum is no
 -- zero: so a minimum with it is never of two zeros. Assumes nothing.
 use mathlib.Core.Path.{◌≡◌, refl, sym, ap, ◌∙◌, subst}
 use mathlib.Core.Bool.{Bool, true, false, not, ◌&&◌, ◌||◌, cond, false≢true}
@@ -11,27 +11,37 @@ use lib.IntN.{pos}
 use lib.Dec.{T, leb, ltb, leb→le, ltb→lt}
 use lib.Pow.{pow_pos}
 use lib.Ieee.{Float, nan, inf, fin, binary64, up, down, round, of_bits, mul, div, lt, eq, le, ne, fits, of_int}
+use borrow.Author.Tests.{lt-ltb}
 use lib.Ieee.Fits.{up_pos, down_pos, mul-fits}
 use lib.Ieee.Scale.{finite}
 use lib.Ieee.Order.{round_mono}
 use lib.Ieee.Positive.{num, den, positive, above, above_of_le, le→cross, mul_mono}
-use Rattle.std.specs.Prelude.{Result, Ok, Err, ⊤}
+use Rattle.std.specs.Prelude.{Result, Ok, Err, ⊤, OnOk}
 use Rattle.float.specs.Operators.{◌⊗◌, ◌⊘◌, 𝟎, 𝟏}
 use Rattle.float.specs.Constants.{ten⁻⁵, ten⁻⁶, hundredth}
-use Rattle.float.specs.Methods.{abs, min_num}
-use Rattle.float.proofs.Cases.{holds, or_left, or_right}
+use Rattle.float.specs.Methods.{abs, min_num, finite_positive}
+use Rattle.float.proofs.Cases.{holds, both, or_left, or_right}
+use Rattle.float.proofs.Laws.{some}
 use Rattle.float.proofs.Own.{fit}
-use Rattle.float.proofs.Positive.{above-finite, positive-finite, positive_some, over_zero, smaller, div_some}
+use Rattle.float.proofs.Positive.{above-finite, positive_some, over_zero, smaller, div_some}
 use Rattle.float.proofs.Order.{not_lt_le}
 use Rattle.vector.specs.Lists.{every, all_finite}
 use Rattle.vector.proofs.Lists.{finite_at}
 use Rattle.square_root.specs.Root.{square_root}
 use Rattle.stepping.specs.declared.Refusal.{Refusal}
-use Rattle.stepping.specs.declared.Refusal.TheVariants.{Dimension, NonFinite, Direction, TimeResolution, FirstStep}
+use Rattle.stepping.specs.declared.Refusal.TheVariants.{Dimension, NonFinite, Direction, FirstStep}
 use Rattle.stepping.specs.Refusals.{first_of, unless_refused}
-use Rattle.stepping.proofs.Refusals.{here, later, none, passed, held, is_refused, is_answered}
+use Rattle.stepping.proofs.Refusals.{passed, held}
 use Rattle.initial_step.specs.Norm.{scaled_sum, mean, ratios, rms}
-use Rattle.initial_step.specs.First.{all_above, undirected, input_tests, slight, unbounded, guess, norm_tests, proposed, initial_step, plain_step}
+use Rattle.initial_step.specs.First.{all_above, undirected, input_tests, slight, unbounded, guess, proposed, initial_step}
+
+positive_told : (x : Float) → T (positive x) → finite_positive x ≡ true
+unfolding finite_positive lt of_bits
+positive_told nan p = absurd p
+positive_told (inf s) p = absurd p
+positive_told (fin true m e) p = absurd p
+positive_told (fin false zero e) p = absurd p
+positive_told (fin false (suc m) e) p = both (lt-ltb (0 * 1 * down e) (suc m * up e * 1) (omega (arith, some m e))) refl
 
 -- ---- the constants
 ten⁻⁵-positive : T (positive ten⁻⁵)
@@ -137,20 +147,6 @@ module _ (d₀ d₁ maximum : Float) (held : T (fits binary64 d₁)) (top : T (p
       go false true false p q r h = absurd (false≢true (sym h))
       go false false z p q r h = absurd (false≢true (sym h))
 
-  pub last_two : (direct : Float) → proposed d₀ d₁ direct maximum ≡ cond (unbounded d₀ d₁) (Err FirstStep) (Ok (direct ⊗ min_num (guess d₀ d₁ maximum) maximum))
-  unfolding proposed
-  last_two direct = go (unbounded d₀ d₁) refl
-    where
-      answer : Result Float Refusal
-      answer = Ok (direct ⊗ min_num (guess d₀ d₁ maximum) maximum)
-
-      go : (x : Bool) → unbounded d₀ d₁ ≡ x → unless_refused Err (first_of (norm_tests d₀ d₁ maximum)) answer ≡ cond x (Err FirstStep) answer
-      go true h = sym (is_refused Err answer (here FirstStep _ h))
-      go false h =
-          let p = guess-positive h in
-          let g = guess d₀ d₁ maximum in
-          sym (is_answered Err (later FirstStep _ h (later NonFinite _ (ap not (positive-finite g p)) (later TimeResolution [] (positive_some g p) none))) refl)
-
 -- ---- the call
 rms-fits : (v s : List Float) → T (fits binary64 (rms v s))
 unfolding rms mean fits
@@ -171,15 +167,18 @@ module _ (y f s : List Float) (direct maximum : Float) where
       let u = (passed Direction (not (all_above s) || (ne (abs direct) 𝟏 || le maximum 𝟎)) [] q.1).0 in
       over_zero maximum (finite_at (direct ∷ maximum ∷ []) 1 q.0 (omega arith)) (or_right (ne (abs direct) 𝟏) (le maximum 𝟎) (or_right (not (all_above s)) _ u))
 
-  pub never_hold : initial_step y f s direct maximum ≡ plain_step y f s direct maximum
-  unfolding initial_step plain_step unless_refused
-  never_hold = go (first_of (input_tests y f s direct maximum)) refl
+  pub guess_above : {r : Result Float Refusal} → r ≡ initial_step y f s direct maximum → OnOk r (finite_positive (guess (rms y s) (rms f s) maximum) ≡ true)
+  unfolding initial_step unless_refused proposed
+  guess_above {r} e = subst (λ (w : Result Float Refusal). OnOk w (finite_positive (guess (rms y s) (rms f s) maximum) ≡ true)) (sym e) (go (first_of (input_tests y f s direct maximum)) refl (unbounded (rms y s) (rms f s)) refl)
     where
-      go : (r : Result ⊤ Refusal) → first_of (input_tests y f s direct maximum) ≡ r
-          → unless_refused Err r (proposed (rms y s) (rms f s) direct maximum)
-          ≡ unless_refused Err r (cond (unbounded (rms y s) (rms f s)) (Err FirstStep) (Ok (direct ⊗ min_num (guess (rms y s) (rms f s) maximum) maximum)))
-      go (Ok x) e = last_two (rms y s) (rms f s) maximum (rms-fits f s) (maximum-positive e) direct
-      go (Err k) e = refl
+      answer : Float
+      answer = direct ⊗ min_num (guess (rms y s) (rms f s) maximum) maximum
+
+      go : (r : Result ⊤ Refusal) → first_of (input_tests y f s direct maximum) ≡ r → (b : Bool) → unbounded (rms y s) (rms f s) ≡ b
+          → OnOk (unless_refused Err r (cond b (Err FirstStep) (Ok answer))) (finite_positive (guess (rms y s) (rms f s) maximum) ≡ true)
+      go (Err k) p b h = tt
+      go (Ok x) p true h = tt
+      go (Ok x) p false h = positive_told _ (guess-positive (rms y s) (rms f s) maximum (rms-fits f s) (maximum-positive p) h)
 
   -- each minimum is with the maximum, which is then no zero
   pub maximum_no_zero : first_of (input_tests y f s direct maximum) ≡ Ok tt → eq maximum 𝟎 ≡ false

@@ -2,14 +2,14 @@
 -- and d₁ of its derivative, a hundredth of d₀ / d₁, or 1e-6 where a norm is below 1e-5; at most the maximum, in the direction. Definitions only.
 use Rattle.std.specs.Prelude.{Bool, not, ◌&&◌, ◌||◌, cond, List, [], ◌∷◌, length, Float, Result, Ok, Err}
 use Rattle.std.specs.List.{list_all}
-use Rattle.std.specs.Float.Ieee.{lt, le, eq, ne}
+use Rattle.std.specs.Float.Ieee.{lt, le, ne}
 use Rattle.std.specs.Float.Ieee.Scale.{finite}
 use Rattle.float.specs.Operators.{◌⊗◌, ◌⊘◌, 𝟎, 𝟏}
 use Rattle.float.specs.Constants.{ten⁻⁵, ten⁻⁶, hundredth}
 use Rattle.float.specs.Methods.{abs, min_num}
 use Rattle.stepping.specs.Dimension.{same_dimension}
 use Rattle.stepping.specs.declared.Refusal.{Refusal}
-use Rattle.stepping.specs.declared.Refusal.TheVariants.{Dimension, NonFinite, Direction, TimeResolution, FirstStep}
+use Rattle.stepping.specs.declared.Refusal.TheVariants.{Dimension, Direction, FirstStep}
 use Rattle.stepping.specs.Refusals.{Test, ◌when◌, first_of, unless_refused, finite_test}
 use Rattle.initial_step.specs.Norm.{rms}
 
@@ -43,29 +43,12 @@ unbounded d₀ d₁ = not (slight d₀ d₁) && not (finite d₀ && finite d₁)
 unfoldable pub guess : Float → Float → Float → Float
 guess d₀ d₁ maximum = cond (slight d₀ d₁) ten⁻⁶ (min_num (hundredth ⊗ d₀ ⊘ d₁) maximum)
 
--- the last two never hold
-abbrev pub norm_tests : Float → Float → Float → List Test
-norm_tests d₀ d₁ maximum =
-    (FirstStep when unbounded d₀ d₁)
-    ∷ (NonFinite when not (finite (guess d₀ d₁ maximum)))
-    ∷ (TimeResolution when eq (guess d₀ d₁ maximum) 𝟎)
-    ∷ []
-
+-- 9 where only the logarithms of the norms would give their quotient
 unfoldable pub proposed : Float → Float → Float → Float → Result Float Refusal
-proposed d₀ d₁ direct maximum =
-    unless_refused Err (first_of (norm_tests d₀ d₁ maximum)) (Ok (direct ⊗ min_num (guess d₀ d₁ maximum) maximum))
+proposed d₀ d₁ direct maximum = cond (unbounded d₀ d₁) (Err FirstStep) (Ok (direct ⊗ min_num (guess d₀ d₁ maximum) maximum))
 
 -- ---- the call
 
 unfoldable pub initial_step : List Float → List Float → List Float → Float → Float → Result Float Refusal
 initial_step y f s direct maximum =
     unless_refused Err (first_of (input_tests y f s direct maximum)) (proposed (rms y s) (rms f s) direct maximum)
-
--- ---- the same without the two tests that never hold: its refusals are 1, 2, 4 and 9
-
-unfoldable pub plain_step : List Float → List Float → List Float → Float → Float → Result Float Refusal
-plain_step y f s direct maximum =
-    let d₀ = rms y s in
-    let d₁ = rms f s in
-    unless_refused Err (first_of (input_tests y f s direct maximum))
-    (cond (unbounded d₀ d₁) (Err FirstStep) (Ok (direct ⊗ min_num (guess d₀ d₁ maximum) maximum)))

@@ -1,7 +1,8 @@
 // The first step: a guess from the state, its derivative and the scales of the components.
 #![tactic(auto)]
 
-ghost use Rattle.std.specs.Prelude.{◌≡◌, ◌≤◌, length};
+ghost use Rattle.std.specs.Prelude.{◌≡◌, ◌≤◌, true, length, OnOk};
+ghost use Rattle.float.specs.Methods.{finite_positive};
 ghost use Rattle.initial_step.specs.Norm.{ratio, square, raised, summed, added, mean, rms};
 ghost use Rattle.initial_step.specs.First.{all_above, undirected, slight, unbounded, guess, proposed, initial_step};
 
@@ -135,8 +136,8 @@ fn guess(d0: f64, d1: f64, maximum: f64) -> f64
     }
 }
 
-// The step from the two norms. Its last two refusals are never met.
-#[tactic(auto, unfolding(crate::specs::First::proposed, stepping::specs::Refusals::first_of, stepping::specs::Refusals::unless_refused))]
+// The step from the two norms.
+#[tactic(auto, unfolding(crate::specs::First::proposed))]
 fn proposed(d0: f64, d1: f64, direction: f64, maximum: f64) -> Result<f64, Refusal>
     ensures { result ≡ proposed d0 d1 direction maximum }
 {
@@ -144,12 +145,6 @@ fn proposed(d0: f64, d1: f64, direction: f64, maximum: f64) -> Result<f64, Refus
         return Err(Refusal::FirstStep);
     }
     let h = guess(d0, d1, maximum);
-    if !float::is_finite(h) {
-        return Err(Refusal::NonFinite);
-    }
-    if h == 0.0 {
-        return Err(Refusal::TimeResolution);
-    }
     Ok(direction * float::min(h, maximum))
 }
 
@@ -161,7 +156,8 @@ pub fn initial_step(
     direction: f64,
     maximum: f64,
 ) -> Result<f64, Refusal>
-    ensures { result ≡ initial_step state.now derivative.now scales.now direction maximum }
+    ensures step { result ≡ initial_step state.now derivative.now scales.now direction maximum }
+    ensures guessed { OnOk result (finite_positive (guess (rms state.now scales.now) (rms derivative.now scales.now) maximum) ≡ true) }
 {
     if !stepping::same_dimension(state.len(), derivative.len(), scales.len()) {
         return Err(Refusal::Dimension);
