@@ -145,7 +145,7 @@ module _ (p : TimeDifferencePolicy) (fit : refusal p table.zero 2⁻¹⁰⁷⁴ 
   gap = refl
 
   one_probe : placed table.zero (signum 2⁻¹⁰⁷⁴) 2⁻¹⁰⁷⁴ 𝟎 ≡ Ok (2⁻¹⁰⁷⁴, None)
-  unfolding adjacent first_probe second_probe missed placed signum lt le eq add sub mul of_bits to_bits
+  unfolding adjacent first_probe second_probe missed placed signum is_nan lt le eq add sub mul of_bits to_bits
   one_probe = refl
 
   probed : endpoint p.bounds 2⁻¹⁰⁷⁴ ≡ 2⁻¹⁰⁷⁴ → probes p table.zero 2⁻¹⁰⁷⁴ ≡ Ok (2⁻¹⁰⁷⁴, None)

@@ -1,3 +1,3 @@
 -- Laws that the proofs cite.
-mod Neighbours
+pub mod Neighbours
 pub mod Choice

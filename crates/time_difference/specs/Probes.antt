@@ -1,22 +1,17 @@
 -- Where a one-sided difference quotient in time is probed, and the quotient, in IEEE 754 binary64: at the time plus a spacing and plus twice the
 -- spacing, or at the next doubles where rounding leaves no spacing. Definitions only.
-use Rattle.std.specs.Prelude.{◌+◌, ◌-◌, Bool, ◌&&◌, ◌||◌, cond, Float, Option, Result, Ok, Err}
-use Rattle.std.specs.Bool.{beq, then_some}
-use Rattle.std.specs.Float.{binary64}
-use Rattle.std.specs.Float.Ieee.{lt, le, eq, to_bits, of_bits}
+use Rattle.std.specs.Prelude.{Bool, ◌&&◌, ◌||◌, cond, Float, Option, Result, Ok, Err}
+use Rattle.std.specs.Bool.{then_some}
+use Rattle.std.specs.Float.{binary64, next_up, next_down}
+use Rattle.std.specs.Float.Ieee.{lt, le, eq}
 use Rattle.std.specs.Float.Ieee.Scale.{finite}
 use Rattle.float.specs.Operators.{◌⊕◌, ◌⊖◌, ◌⊗◌, ◌⊘◌, 𝟎, 𝟐}
 use Rattle.stepping.specs.declared.Refusal.{Refusal}
 use Rattle.stepping.specs.declared.Refusal.TheVariants.{TimeResolution}
 
--- the next double in a direction: of a zero the least double with the direction's sign; else the next bit pattern, up where the value lies on
--- the direction's side of 0 and down where it does not
+-- the next double up for a direction of 1, and down for -1: where the value is finite the least double above it and the greatest below (`Neighbours`)
 unfoldable pub adjacent : Float → Float → Float
-adjacent value direction =
-    cond (eq value 𝟎) (direction ⊗ of_bits binary64 1)
-    (cond (beq (lt 𝟎 value) (lt 𝟎 direction))
-    (of_bits binary64 (to_bits binary64 value + 1))
-    (of_bits binary64 (to_bits binary64 value - 1)))
+adjacent value direction = cond (lt 𝟎 direction) (next_up binary64 value) (next_down binary64 value)
 
 -- how far `to` lies ahead of `from`, for a direction of 1 or -1
 abbrev pub ahead : Float → Float → Float → Float
