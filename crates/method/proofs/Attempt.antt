@@ -19,28 +19,30 @@ use Rattle.tableau.specs.Tableau.{present}
 use Rattle.tableau.specs.File.{tableau_of}
 use Rattle.stages.specs.Layout.{current_at, time_partial_at, jacobian_at, stages_at, rhs_stages_at, needed_work}
 use Rattle.attempts.specs.Marks.{noting, with_error_shown, one_attempt}
-use Rattle.attempts.specs.Attempt.{on_work, on_marks, halt, choose, show, begun, evaluate, start}
+use Rattle.attempts.specs.declared.Ask.TheVariants.{Derivative, Jacobian, TimePartial, FirstProbe, SecondProbe, Column, Stage}
+use Rattle.attempts.specs.Attempt.{on_work, on_marks, halt, choose, show, begun, start, wanted}
+use Rattle.attempts.specs.Attempt as attempts
 use Rattle.refusals.specs.declared.Fixed.{Fixed}
 use Rattle.refusals.specs.declared.Progress.{Progress}
 use Rattle.refusals.specs.Requests.{request_after, stage_after}
-use Rattle.refusals.specs.Answers.{Lent, Request, derivative, asked, shown, candidate_of, error_shown, shown_part, stages_shown, rhs_stages_shown, jacobian_shown, time_partial_shown, view_of}
+use Rattle.refusals.specs.Answers.{Lent, Request, derivative, kind_of, asked, shown, candidate_of, error_shown, shown_part, stages_shown, rhs_stages_shown, jacobian_shown, time_partial_shown, view_of}
 use Rattle.refusals.specs.Answers as answers
 use Rattle.refusals.specs.Tests.{file_tests, attempt_tests, step_tests, decision_tests}
-use Rattle.rosenbrock.specs.Calls.{Out, refusal, guarded, given_by, scratch_by, progress_after, settle, opened, attempt_by, attempt_of, rejected, reject_of}
+use Rattle.rosenbrock.specs.Calls.{Out, refusal, guarded, given_by, scratch_by, progress_after, settle, opened, attempt_by, attempt_of, supply_of, rejected, reject_of}
 use Rattle.phases.specs.Phases.{opening}
 use Rattle.refusals.proofs.Fitting.{LentShape, fits_passed}
 use Rattle.std.specs.Bool.{then_some}
 use Rattle.method.specs.Step as method
-use Rattle.method.specs.Step.{Problem, Attempted, Evaluated, Differentiation, Caches, evaluated, derivative_at, differentiation_at, partial_at}
-use Rattle.method.specs.Schedule.{unless_cached, derivative_items, jacobian_items, partial_items, schedule, asks_for, ends_in}
-use Rattle.method.specs.Conversation.{Conversation, last_answer, shown_error, rest_view, requests_of, answer_of, Sized, caches_in, attempted_by, AttemptIsStep}
-use Rattle.method.proofs.Conforms.{step_of, Ready, Open, not_chosen}
+use Rattle.method.specs.Step.{Problem, Answers, Attempted, Evaluated, Differentiation, Caches, evaluated, derivative_at, differentiation_at, partial_at}
+use Rattle.method.specs.Schedule.{Item, evaluate, test, unless_cached, derivative_items, jacobian_items, partial_items, schedule, asks_for, ends_in}
+use Rattle.method.specs.Conversation.{answer_to, Conversation, last_answer, shown_error, step_view, rest_view, requests_of, answer_of, Sized, caches_in, attempted_with, attempted_by, AttemptIsStep}
+use Rattle.method.proofs.Conforms.{step_of, Long, Ready, Talks, Open, not_chosen}
 use Rattle.method.proofs.Partial.{matrix_on}
 use Rattle.method.proofs.Start.{evaluates, begun_candidate, begun_error, begun_left, begun_sums}
 
 -- ---- what the tests of an attempt establish
 
-front_passed : (xs ys : List Test) → first_of (xs ++ ys) ≡ Ok tt → first_of xs ≡ Ok tt
+pub front_passed : (xs ys : List Test) → first_of (xs ++ ys) ≡ Ok tt → first_of xs ≡ Ok tt
 unfolding first_of
 front_passed [] ys h = refl
 front_passed ((refusal when true) ∷ xs) ys h = cc
@@ -50,9 +52,9 @@ module _ (fx : Fixed) (file : List ℕ) (x : Progress) (m : Lent) (h : first_of 
   shape : LentShape fx m
   shape = (fits_passed fx x m _ h).0.shape
 
-  ready : (problem : Problem) → Sized fx.n problem → Ready fx file problem m
-  ready problem sized =
-      record { shape = shape; file_passed = front_passed (file_tests fx.s file) _ (fits_passed fx x m _ h).1; sized = sized }
+  ready : (answer : Answers) → Long fx.n answer → Ready fx file answer m
+  ready answer long =
+      record { shape = shape; file_passed = front_passed (file_tests fx.s file) _ (fits_passed fx x m _ h).1; long = long }
 
 -- ---- what is cached
 
@@ -65,9 +67,9 @@ made_anew true u v h = absurd (true≢false h)
 made_anew false u v h = refl
 
 -- ---- an attempt that has opened with the record x
-module _ (fx : Fixed) (file : List ℕ) (problem : Problem) (x : Progress) (m : Lent) (long : length m.work ≡ needed_work fx.n fx.s) where
+module _ (fx : Fixed) (file : List ℕ) (answer : Answers) (x : Progress) (m : Lent) (long : length m.work ≡ needed_work fx.n fx.s) where
   abbrev p : Attempted
-  p = step_of fx file problem x m
+  p = step_of fx file answer x m
 
   abbrev c : Caches
   c = caches_in fx x m
@@ -92,11 +94,11 @@ module _ (fx : Fixed) (file : List ℕ) (problem : Problem) (x : Progress) (m : 
     rests =
         let g = given_by fx file x m in
         let sc = on_work (begun g) (scratch_by one_attempt x m) in
-        ap (λ (b : Bool). (settle fx x m (choose b (show g sc) (evaluate g sc))).answer) still ∙ shows_rest
+        ap (λ (b : Bool). (settle fx x m (choose b (show g sc) (attempts.evaluate g sc))).answer) still ∙ shows_rest
 
   -- at any other it goes through the step's schedule
-  goes_through : Ready fx file problem m → length m.pivots ≡ fx.n → eq x.step 𝟎 ≡ false
-      → Conversation fx file problem (asks_for (schedule p c)) (opened fx file x m) (last_answer p x.end (ends_in (schedule p c)) (evaluated p c))
+  goes_through : Ready fx file answer m → length m.pivots ≡ fx.n → eq x.step 𝟎 ≡ false
+      → Talks fx file answer (shown (step_view p x.end (evaluated p c))) (schedule p c) (opened fx file x m)
   unfolding opened start on_work schedule caches_in evaluated derivative_at differentiation_at given_by scratch_by needed_work
   goes_through ready rows moves =
       let n = fx.n in
@@ -106,9 +108,9 @@ module _ (fx : Fixed) (file : List ℕ) (problem : Problem) (x : Progress) (m : 
       let f₀ = derivative_at p c in
       let old : Differentiation = record { J = part (jacobian_at n) (n * n) m.work; fₜ = part (time_partial_at n) n m.work } in
       let new : Differentiation = record { J = method.jacobian_at p f₀; fₜ = partial_at p f₀ } in
-      let o : Open = record { fx = fx; file = file; problem = problem; x = x; m = m; e = evaluated p c; ready = ready; moves = moves } in
+      let o : Open = record { fx = fx; file = file; answer = answer; x = x; m = m; e = evaluated p c; ready = ready; moves = moves } in
       (not_chosen {o = o} _ moves
-      (evaluates o b k _ old _ refl refl (begun_sums fx file x m state long problem (evaluated p c))
+      (evaluates o b k _ old _ refl refl (begun_sums fx file x m state long answer (evaluated p c))
       (λ t. begun_left fx file x m state long (current_at n) n (omega arith) (omega arith) ∙ kept_or_new b _ _ t)
       (λ t. made_anew b _ _ t)
       (record {
@@ -119,26 +121,77 @@ module _ (fx : Fixed) (file : List ℕ) (problem : Problem) (x : Progress) (m : 
             );
         if_not = λ t. (ap (λ (d : Differentiation). d.J) (made_anew k old new t), ap (λ (d : Differentiation). d.fₜ) (made_anew k old new t));
       })
-      rows)).conversation
+      rows)).talks
 
--- ---- the claim
-module _ (fx : Fixed) (file : List ℕ) (step : Float) (host-J host-fₜ : Bool) (x : Progress) (m : Lent) where
-  opens : first_of (attempt_tests fx file x m) ≡ Ok tt → first_of (step_tests step x) ≡ Ok tt
-      → opened fx file (opening step host-J host-fₜ x) m ≡ attempt_of fx file step host-J host-fₜ x m
-  unfolding attempt_of attempt_by guarded
-  opens h k = is_answered (refusal x m) h (is_answered (refusal x m) k refl)
+-- ---- the claim, for any answers
+module _ (fx : Fixed) (file : List ℕ) (answer : Answers) (step : Float) (host-J host-fₜ : Bool) (x : Progress) (m : Lent) where
+  abbrev about : Attempted
+  about = attempted_with fx file answer step host-J host-fₜ x m
+
+  abbrev cached : Caches
+  cached = caches_in fx x m
+
+  abbrev left : Out
+  left = attempt_of fx file step host-J host-fₜ x m
+
+  -- the record with which it opens
+  abbrev y : Progress
+  y = opening step host-J host-fₜ x
+
+  module _ (passes : first_of (attempt_tests fx file x m) ≡ Ok tt) (steps : first_of (step_tests step x) ≡ Ok tt) where
+    opens : opened fx file y m ≡ left
+    unfolding attempt_of attempt_by guarded
+    opens = is_answered (refusal x m) passes (is_answered (refusal x m) steps refl)
+
+    pub stays : eq about.h 𝟎 ≡ true → left.answer ≡ shown (rest_view about (x.time ⊕ step))
+    unfolding opening
+    stays still =
+        let s = shape fx file x m passes in
+        subst (λ (o : Out). o.answer ≡ shown (rest_view about (x.time ⊕ step))) opens (rests fx file answer y m s.of_work s.of_state still)
+
+    pub moves : Long fx.n answer → eq about.h 𝟎 ≡ false → Talks fx file answer (shown (step_view about (x.time ⊕ step) (evaluated about cached))) (schedule about cached) left
+    unfolding opening caches_in
+    moves long moving =
+        let s = shape fx file x m passes in
+        subst (Talks fx file answer (shown (step_view about (x.time ⊕ step) (evaluated about cached))) (schedule about cached)) opens
+        (goes_through fx file answer y m s.of_work (ready fx file x m passes answer long) s.of_pivots moving)
+
+-- ---- the claim, for the answers of f, J and fₜ
+
+module _ (problem : Problem) where
+  abbrev own : Answers
+  own a = answer_to problem (kind_of a)
+
+  own_long : (n : ℕ) → Sized n problem → Long n own
+  unfolding answer_to kind_of wanted
+  own_long n s Derivative t z = s.of_f t z
+  own_long n s Jacobian t z = s.of_J t z
+  own_long n s TimePartial t z = s.of_fₜ t z
+  own_long n s FirstProbe t z = s.of_f t z
+  own_long n s SecondProbe t z = s.of_f t z
+  own_long n s (Column k) t z = s.of_f t z
+  own_long n s (Stage i) t z = s.of_f t z
+
+  converses : (fx : Fixed) (file : List ℕ) (p : Attempted) (end : Float) (e : Evaluated) (items : List Item) (out : Out)
+      → Talks fx file own (shown (step_view p end e)) items out
+      → Conversation fx file problem (asks_for items) out (last_answer p end (ends_in items) e)
+  unfolding Talks Conversation asks_for ends_in last_answer
+  converses fx file p end e [] out h = h
+  converses fx file p end e (evaluate a t z ∷ items) out h =
+      (h.0.asks, converses fx file p end e items (supply_of fx file (own a t z) out.progress out.lent) h.1)
+  converses fx file p end e (test (k when true) ∷ items) out h = h
+  converses fx file p end e (test (k when false) ∷ items) out h = converses fx file p end e items out h
 
 pub attempt_is_step : AttemptIsStep
-unfolding attempted_by requests_of answer_of opening caches_in opened Conversation
+unfolding attempted_by requests_of answer_of Conversation
 attempt_is_step fx file problem step host-J host-fₜ x m passes steps sized =
-    let y = opening step host-J host-fₜ x in
-    let p = step_of fx file problem y m in
-    let s = shape fx file x m passes in
-    subst (λ (o : Out). Conversation fx file problem (requests_of p y.end (caches_in fx y m)) o (answer_of p y.end (caches_in fx y m)))
-    (opens fx file step host-J host-fₜ x m passes steps)
-    (by (eq y.step 𝟎)
-    (λ still. rw still (rests fx file problem y m s.of_work s.of_state still))
-    (λ moves. rw moves (goes_through fx file problem y m s.of_work (ready fx file x m passes problem sized) s.of_pivots moves)))
+    let p = attempted_by fx file problem step host-J host-fₜ x m in
+    by (eq p.h 𝟎)
+    (λ still. rw still (stays fx file (own problem) step host-J host-fₜ x m passes steps still))
+    (λ moving.
+    rw moving
+    (converses problem fx file p (x.time ⊕ step) (evaluated p (caches_in fx x m)) (schedule p (caches_in fx x m)) (attempt_of fx file step host-J host-fₜ x m)
+    (moves fx file (own problem) step host-J host-fₜ x m passes steps (own_long problem fx.n sized) moving)))
 
 -- ---- what it means for the requests
 
@@ -152,7 +205,7 @@ module _ (p : Attempted) (end : Float) (c : Caches) (moves : eq p.h 𝟎 ≡ fal
 
   -- without a cached derivative they begin with the derivative at the accepted time and state
   pub begin_with_derivative : c.derivative ≡ None → (rs : List Request) × (requests_of p end c ≡ record { kind = derivative; time = p.t; state = p.y } ∷ rs)
-  unfolding schedule unless_cached derivative_items asks_for
+  unfolding schedule unless_cached derivative_items asks_for kind_of
   begin_with_derivative q =
       (_, moving ∙ ap (λ (d : Option (List Float)). asks_for (unless_cached d (derivative_items p e) ++ (unless_cached c.differentiation (jacobian_items p e ++ partial_items p e) ++ matrix_on p e))) q)
 

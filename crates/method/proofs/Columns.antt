@@ -19,13 +19,14 @@ use Rattle.differentiation.specs.Differences.{rise, quotient}
 use Rattle.differentiation.specs.Memory.{with_column}
 use Rattle.differentiation.proofs.Lengths.{length_column}
 use Rattle.differentiation.proofs.Writes.{column_left, column_apart, column_written}
+use Rattle.attempts.specs.declared.Ask.TheVariants.{Column}
 use Rattle.method.specs.Step.{Attempted, Evaluated, probed_state, probed_jacobian}
 use Rattle.method.proofs.Holds.{But, stored, Sums, sums_kept}
 
 module _ (p : Attempted) (e : Evaluated) (s : ℕ) where
   -- row i of column j
   abbrev pub probed_entry : ℕ → ℕ → Float
-  probed_entry i j = quotient (rise (el p.y j)) (el (p.problem.f p.t (probed_state p e.f₀ j))) (el e.f₀) i
+  probed_entry i j = quotient (rise (el p.y j)) (el (p.answer (Column j) p.t (probed_state p e.f₀ j))) (el e.f₀) i
 
   -- the columns before column k
   pub record Columns (k : ℕ) (w : List Float) : Type 0 where
@@ -45,7 +46,7 @@ module _ (p : Attempted) (e : Evaluated) (s : ℕ) where
       }
 
   -- column k, from the derivative at its probe
-  pub column_more : (k : ℕ) (w : List Float) → k < p.n → part (probe_rhs_at p.n) p.n w ≡ p.problem.f p.t (probed_state p e.f₀ k)
+  pub column_more : (k : ℕ) (w : List Float) → k < p.n → part (probe_rhs_at p.n) p.n w ≡ p.answer (Column k) p.t (probed_state p e.f₀ k)
       → Columns k w → Columns (suc k) (with_column p.n k (rise (el p.y k)) w)
   column_more k w below there h =
       let n = p.n in

@@ -14,14 +14,14 @@ use Rattle.vector.proofs.Parts.{part_stored}
 use Rattle.stages.specs.Layout.{current_at, probe_state_at, probe_rhs_at, jacobian_at, needed_work}
 use Rattle.differentiation.specs.Memory.{with_probe_state}
 use Rattle.differentiation.proofs.Writes.{probe_written}
-use Rattle.attempts.specs.Attempt.{Scratch, on_work, jacobian_done, open_column, next_column, ask_jacobian, written, resume}
-use Rattle.refusals.specs.Answers.{kind_of, state_asked}
+use Rattle.attempts.specs.declared.Ask.TheVariants.{Jacobian, Column}
+use Rattle.attempts.specs.Attempt.{Scratch, on_work, jacobian_done, open_column, next_column, ask_jacobian, written, resume, wanted}
+use Rattle.refusals.specs.Answers.{state_asked}
 use Rattle.refusals.specs.Tests.{pivots_unfit}
 use Rattle.rosenbrock.specs.Calls.{given_by}
 use Rattle.method.specs.Step as step
-use Rattle.method.specs.Step.{Problem, Attempted, Evaluated, probed_state, probed_jacobian, partial_at}
+use Rattle.method.specs.Step.{Attempted, Evaluated, probed_state, probed_jacobian, partial_at}
 use Rattle.method.specs.Schedule.{Item, finite_test, column_items, columns_items, jacobian_items, partial_items}
-use Rattle.method.specs.Conversation.{answer_to}
 use Rattle.method.proofs.Conforms.{Open, step_in, given_in, Conforms, goes_on, goes_on_unless, chooses, chosen, not_chosen, asks, asks_rhs}
 use Rattle.method.proofs.Holds.{stored, Sums, sums_kept}
 use Rattle.method.proofs.Partial.{Known, matrix_on, asks_partial}
@@ -48,7 +48,7 @@ module _ (o : Open) (is-partial : partial_at (step_in o) o.e.f₀ ≡ o.e.fₜ) 
   -- column k and the r columns after it
   probes_columns : (r k : ℕ) → k + r ≡ o.fx.n → probed_jacobian p o.e.f₀ ≡ o.e.J → (sc : Scratch) → Columns p o.e o.fx.s k sc.work → length sc.pivots ≡ o.fx.n
       → Conforms o (columns_items p o.e k r ++ (finite_test o.e.J ∷ later)) (next_column (given_in o) k sc)
-  unfolding pivots_unfit next_column open_column columns_items column_items on_work resume written with_probe_state given_by state_asked kind_of answer_to needed_work
+  unfolding pivots_unfit next_column open_column columns_items column_items on_work resume written with_probe_state given_by state_asked wanted needed_work
   probes_columns zero k q is sc h rows =
       let z : k ≡ o.fx.n = omega arith in
       let whole = columns_whole p o.e o.fx.s sc.work (rw z at h) in
@@ -58,7 +58,7 @@ module _ (o : Open) (is-partial : partial_at (step_in o) o.e.f₀ ≡ o.e.fₜ) 
       let n = o.fx.n in
       let below : k < n = omega arith in
       let z = probed_state p o.e.f₀ k in
-      let v = o.problem.f o.x.time z in
+      let v = o.answer (Column k) o.x.time z in
       let long = h.sums.long in
       let w = with_probe_state n o.m.state k sc.work in
       let there : part (probe_state_at n) n w ≡ z = probe_there k sc.work (omega arith) in
@@ -73,18 +73,18 @@ module _ (o : Open) (is-partial : partial_at (step_in o) o.e.f₀ ≡ o.e.fₜ) 
       (goes_on _ refl
       (λ _.
       probes_columns r (suc k) (omega arith) is _
-      (column_more p o.e o.fx.s k _ below (part_stored w (probe_rhs_at n) v n nan (o.ready.sized.of_f o.x.time z) (omega arith))
+      (column_more p o.e o.fx.s k _ below (part_stored w (probe_rhs_at n) v n nan (o.ready.long (Column k) o.x.time z) (omega arith))
       (columns_kept p o.e o.fx.s k w (probe_rhs_at n) (el v) n (omega arith) (omega arith) opened))
       rows)))))
 
   pub asks_jacobian : (sc : Scratch) → Sums p o.e o.fx.s 0 sc.work → part (current_at o.fx.n) o.fx.n sc.work ≡ o.e.f₀ → step.jacobian_at p o.e.f₀ ≡ o.e.J
       → length sc.pivots ≡ o.fx.n → Conforms o (jacobian_items p o.e ++ later) (ask_jacobian (given_in o) sc)
-  unfolding pivots_unfit ask_jacobian jacobian_items step.jacobian_at on_work resume written given_by state_asked kind_of answer_to needed_work
+  unfolding pivots_unfit ask_jacobian jacobian_items step.jacobian_at on_work resume written given_by state_asked wanted needed_work
   asks_jacobian sc sums current is rows =
       let n = o.fx.n in
       let w = sc.work in
       let long = sums.long in
-      let v = o.problem.J o.x.time o.m.state in
+      let v = o.answer Jacobian o.x.time o.m.state in
       let but = stored w (jacobian_at n) (el v) (n * n) in
       rw append_assoc
       (chooses _ _ _
@@ -94,7 +94,7 @@ module _ (o : Open) (is-partial : partial_at (step_in o) o.e.f₀ ≡ o.e.fₜ) 
       (record {
         sums = sums_kept but sums (omega arith);
         derivative_there = but.left (current_at n) n (omega arith) (inl (omega arith)) ∙ current;
-        jacobian_there = part_stored w (jacobian_at n) v (n * n) nan (o.ready.sized.of_J o.x.time o.m.state) (omega arith) ∙ yes _ host refl ∙ is;
+        jacobian_there = part_stored w (jacobian_at n) v (n * n) nan (o.ready.long Jacobian o.x.time o.m.state) (omega arith) ∙ yes _ host refl ∙ is;
       })
       rows))
       (λ own.

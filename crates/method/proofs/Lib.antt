@@ -8,4 +8,6 @@ mod Partial
 mod Columns
 mod Jacobian
 mod Start
+mod Order
 pub mod Attempt
+mod Turns

@@ -20,13 +20,13 @@ use Rattle.stages.specs.Layout.{current_at, time_partial_at, probe_rhs_at, jacob
 use Rattle.differentiation.specs.Memory.{with_partial}
 use Rattle.differentiation.proofs.Writes.{partial_written}
 use Rattle.attempts.specs.Marks.{noting, with_probes, with_request_time}
-use Rattle.attempts.specs.Attempt.{Scratch, on_work, on_marks, choose, partial_done, combine, ask_first_probe, ask_partial, written, resume}
-use Rattle.refusals.specs.Answers.{kind_of, state_asked}
+use Rattle.attempts.specs.declared.Ask.TheVariants.{TimePartial, FirstProbe, SecondProbe}
+use Rattle.attempts.specs.Attempt.{Scratch, on_work, on_marks, choose, partial_done, combine, ask_first_probe, ask_partial, written, resume, wanted}
+use Rattle.refusals.specs.Answers.{state_asked}
 use Rattle.refusals.specs.Tests.{pivots_unfit}
 use Rattle.rosenbrock.specs.Calls.{given_by}
 use Rattle.method.specs.Step.{Attempted, Evaluated, probed_partial, partial_at}
 use Rattle.method.specs.Schedule.{Item, finite_test, probe_items, partial_items, matrix_items, stages_items, end_items}
-use Rattle.method.specs.Conversation.{answer_to}
 use Rattle.method.proofs.Conforms.{Open, step_in, given_in, supplied, Conforms, stops, goes_on, chooses, asks, asks_rhs}
 use Rattle.method.proofs.Holds.{stored, Sums, sums_kept}
 use Rattle.method.proofs.Matrix.{factors}
@@ -78,26 +78,26 @@ module _ (o : Open) where
 
   probed : (q : Result (Float × Option Float) Refusal) (sc : Scratch) → Known p o.e o.fx.s sc.work → probed_partial p o.e.f₀ q ≡ o.e.fₜ → length sc.pivots ≡ o.fx.n
       → Conforms o (probe_items p o.e q ++ (finite_test o.e.fₜ ∷ matrix_on p o.e)) (ask_first_probe (given_in o) q sc)
-  unfolding pivots_unfit ask_first_probe probe_items probed_partial partial on_marks on_work noting with_probes with_request_time resume written choose given_by state_asked kind_of answer_to needed_work
+  unfolding pivots_unfit ask_first_probe probe_items probed_partial partial on_marks on_work noting with_probes with_request_time resume written choose given_by state_asked wanted needed_work
   probed (Err k) sc h is rows = stops sc
   probed (Ok (a, None)) sc h is rows =
       let n = o.fx.n in
       let long = h.sums.long in
-      let v = o.problem.f a o.m.state in
+      let v = o.answer FirstProbe a o.m.state in
       let w = puts sc.work (time_partial_at n) (el v) n in
       asks_rhs refl (record { work = long; pivots = rows; range = tt; rows = refl })
       (goes_on _ refl
       (λ _.
       combines _ v (part (probe_rhs_at n) n w) (known_kept p o.e o.fx.s sc.work (time_partial_at n) (el v) n (omega arith) (omega arith) h)
-      (part_stored sc.work (time_partial_at n) v n nan (o.ready.sized.of_f a o.m.state) (omega arith)) refl is rows))
+      (part_stored sc.work (time_partial_at n) v n nan (o.ready.long FirstProbe a o.m.state) (omega arith)) refl is rows))
   probed (Ok (a, Some b)) sc h is rows =
       let n = o.fx.n in
       let long = h.sums.long in
-      let v = o.problem.f a o.m.state in
-      let u = o.problem.f b o.m.state in
+      let v = o.answer FirstProbe a o.m.state in
+      let u = o.answer SecondProbe b o.m.state in
       let w = puts sc.work (time_partial_at n) (el v) n in
       let known = known_kept p o.e o.fx.s sc.work (time_partial_at n) (el v) n (omega arith) (omega arith) h in
-      let first = part_stored sc.work (time_partial_at n) v n nan (o.ready.sized.of_f a o.m.state) (omega arith) in
+      let first = part_stored sc.work (time_partial_at n) v n nan (o.ready.long FirstProbe a o.m.state) (omega arith) in
       let long₁ = known.sums.long in
       let y = written (given_in o) (time_partial_at n) n v (supplied a (on_marks (noting (with_probes a (Some b))) sc)) in
       let z = written (given_in o) (probe_rhs_at n) n u (supplied b y) in
@@ -109,19 +109,19 @@ module _ (o : Open) where
       (λ _.
       combines z v u (known_kept p o.e o.fx.s w (probe_rhs_at n) (el u) n (omega arith) (omega arith) known)
       (part_left w (probe_rhs_at n) (el u) n (time_partial_at n) n nan (omega arith) (inl (omega arith)) ∙ first)
-      (part_stored w (probe_rhs_at n) u n nan (o.ready.sized.of_f b o.m.state) (omega arith)) is rows))))
+      (part_stored w (probe_rhs_at n) u n nan (o.ready.long SecondProbe b o.m.state) (omega arith)) is rows))))
 
   pub asks_partial : (sc : Scratch) → Known p o.e o.fx.s sc.work → partial_at p o.e.f₀ ≡ o.e.fₜ → length sc.pivots ≡ o.fx.n
       → Conforms o (partial_items p o.e ++ matrix_on p o.e) (ask_partial (given_in o) sc)
-  unfolding pivots_unfit ask_partial partial_items partial_at on_work resume written given_by state_asked kind_of answer_to needed_work
+  unfolding pivots_unfit ask_partial partial_items partial_at on_work resume written given_by state_asked wanted needed_work
   asks_partial sc h is rows =
       let n = o.fx.n in
       let long = h.sums.long in
-      let v = o.problem.fₜ o.x.time o.m.state in
+      let v = o.answer TimePartial o.x.time o.m.state in
       rw append_assoc
       (chooses _ _ _
       (λ host.
       asks refl (record { work = long; pivots = rows; range = tt; rows = refl })
       (partial_done_lem _ (known_kept p o.e o.fx.s sc.work (time_partial_at n) (el v) n (omega arith) (omega arith) h)
-      (part_stored sc.work (time_partial_at n) v n nan (o.ready.sized.of_fₜ o.x.time o.m.state) (omega arith) ∙ yes _ host refl ∙ is) rows))
+      (part_stored sc.work (time_partial_at n) v n nan (o.ready.long TimePartial o.x.time o.m.state) (omega arith) ∙ yes _ host refl ∙ is) rows))
       (λ own. probed (probes o.fx.policy o.x.time o.x.step) sc h (no _ own refl ∙ is) rows))

@@ -28,15 +28,15 @@ use Rattle.stages.specs.Method.{stage_time, new_state, error_of}
 use Rattle.stages.specs.Memory.{component, with_stage_state}
 use Rattle.attempts.specs.declared.Ask.TheVariants.{Stage}
 use Rattle.attempts.specs.Marks.{noting, with_error_shown, counting}
-use Rattle.attempts.specs.Attempt.{Scratch, on_work, on_marks, halt, show, finish, ask_stage, open_stage, next_stage, solve_stage, first_stage, written, resume}
+use Rattle.attempts.specs.Attempt.{Scratch, on_work, on_marks, halt, show, finish, ask_stage, open_stage, next_stage, solve_stage, first_stage, written, resume, wanted}
 use Rattle.refusals.specs.Requests.{request_after, stage_after}
-use Rattle.refusals.specs.Answers.{kind_of, derivative, state_asked, candidate_of, error_shown, shown_part, stages_shown, rhs_stages_shown, jacobian_shown, time_partial_shown, view_of, answer_of}
+use Rattle.refusals.specs.Answers.{state_asked, candidate_of, error_shown, shown_part, stages_shown, rhs_stages_shown, jacobian_shown, time_partial_shown, view_of, answer_of}
 use Rattle.refusals.specs.Tests.{pivots_unfit}
 use Rattle.rosenbrock.specs.Calls.{given_by, progress_after, settle}
 use Rattle.method.specs.Step.{Attempted, matrix, state_of, reused, derivative_of, stage_of, stages, derivatives, candidate, error}
-use Rattle.method.specs.Schedule.{Item, test, at, finite_test, stage_derivative_items, stage_items, stages_items, end_items, asks_for, ends_in}
-use Rattle.method.specs.Conversation.{answer_to, Conversation, last_answer, shown_error, step_view}
-use Rattle.method.proofs.Conforms.{Open, step_in, given_in, Answerable, Conforms, goes_on, chooses, chosen, not_chosen, asks_rhs}
+use Rattle.method.specs.Schedule.{Item, evaluate, test, finite_test, stage_derivative_items, stage_items, stages_items, end_items}
+use Rattle.method.specs.Conversation.{shown_error, step_view}
+use Rattle.method.proofs.Conforms.{Open, step_in, given_in, Answerable, Talks, Conforms, goes_on, chooses, chosen, not_chosen, asks_rhs}
 use Rattle.method.proofs.Holds.{Sums}
 use Rattle.method.proofs.Solving.{Solving, state_there, state_leaves, derivative_there, derivative_leaves, stage_there, stage_leaves, added_leaves}
 
@@ -67,7 +67,7 @@ module _ (o : Open) where
   error_whole w h = h.error_there ∙ ap (λ (i : ℕ). table (error_of p.tableau (entry o.fx.n (stages p o.e i)) i) o.fx.n) all_stages
 
   shows : (sc : Scratch) → Fits o.fx.s o.fx.s o.fx.s sc → Conforms o [] (show (given_in o) sc)
-  unfolding Conversation asks_for ends_in last_answer show halt on_marks noting with_error_shown settle progress_after request_after stage_after answer_of
+  unfolding Talks show halt on_marks noting with_error_shown settle progress_after request_after stage_after answer_of
       view_of candidate_of error_shown shown_part stages_shown rhs_stages_shown jacobian_shown time_partial_shown step_view shown_error given_by
   shows sc h =
       let counts = p.tableau.counts in
@@ -77,7 +77,7 @@ module _ (o : Open) where
       let d = moved _ _ (h.rows.derivatives_there ∙ ap (derivatives p o.e) all_stages) in
       let J = moved _ _ h.inputs.jacobian_there in
       let fₜ = moved _ _ h.inputs.partial_there in
-      record { conversation = cc (v, r, u, d, J, fₜ) }
+      record { talks = cc (v, r, u, d, J, fₜ) }
 
   finishes : (sc : Scratch) → Fits o.fx.s o.fx.s o.fx.s sc → Conforms o (end_items p o.e) (finish (given_in o) sc)
   unfolding end_items finish given_by
@@ -115,14 +115,14 @@ module _ (o : Open) where
     -- its derivative is asked for
     asks_stage : (sc : Scratch) → reused p o.e i ≡ false → part (stage_state_at o.fx.n) o.fx.n sc.work ≡ state_of p o.e i u → Fits i i i sc
         → let t = stage_time p.tableau o.x.time o.x.step i in
-        Conforms o (test (NonFinite when not (finite t)) ∷ at derivative t (state_of p o.e i u) ∷ finite_test (derivative_of p o.e i u) ∷ finite_test (stage_of p o.e i u) ∷ items)
+        Conforms o (test (NonFinite when not (finite t)) ∷ evaluate (Stage i) t (state_of p o.e i u) ∷ finite_test (derivative_of p o.e i u) ∷ finite_test (stage_of p o.e i u) ∷ items)
         (ask_stage (given_in o) i sc)
-    unfolding ask_stage resume written on_work given_by state_asked kind_of answer_to derivative_of
+    unfolding ask_stage resume written on_work given_by state_asked wanted derivative_of
     asks_stage sc fresh there h =
         let t = stage_time p.tableau o.x.time o.x.step i in
-        let v = o.problem.f t (state_of p o.e i u) in
+        let v = o.answer (Stage i) t (state_of p o.e i u) in
         let is : v ≡ derivative_of p o.e i u = no o.e.f₀ fresh refl in
-        let long : table (el v) o.fx.n ≡ derivative_of p o.e i u = table_own nan v o.fx.n (o.ready.sized.of_f t (state_of p o.e i u)) ∙ is in
+        let long : table (el v) o.fx.n ≡ derivative_of p o.e i u = table_own nan v o.fx.n (o.ready.long (Stage i) t (state_of p o.e i u)) ∙ is in
         goes_on _ refl
         (λ _. asks_rhs there (stage_fits sc h)
         (goes_on _ (ap all_finite is)

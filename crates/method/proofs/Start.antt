@@ -16,17 +16,17 @@ use Rattle.vector.proofs.Stores.{length-puts}
 use Rattle.stages.specs.Layout.{candidate_at, error_at, current_at, time_partial_at, jacobian_at, needed_work}
 use Rattle.stages.specs.Method.{new_state, error_of, plus_products}
 use Rattle.attempts.specs.Marks.{noting, counting, with_caches, with_derivative, with_request_time}
-use Rattle.attempts.specs.Attempt.{Scratch, on_work, on_marks, differentiate, begun, evaluate, written, resume}
+use Rattle.attempts.specs.declared.Ask.TheVariants.{Derivative}
+use Rattle.attempts.specs.Attempt.{Scratch, on_work, on_marks, differentiate, begun, evaluate, written, resume, wanted}
 use Rattle.refusals.specs.declared.Fixed.{Fixed}
 use Rattle.refusals.specs.declared.Progress.{Progress}
-use Rattle.refusals.specs.Answers.{Lent, kind_of, state_asked}
+use Rattle.refusals.specs.Answers.{Lent, state_asked}
 use Rattle.refusals.specs.Tests.{pivots_unfit}
 use Rattle.rosenbrock.specs.Calls.{given_by}
 use Rattle.std.specs.Bool.{then_some}
 use Rattle.method.specs.Step as step
-use Rattle.method.specs.Step.{Problem, Attempted, Evaluated, Differentiation, stages, derivatives, partial_at}
+use Rattle.method.specs.Step.{Answers, Attempted, Evaluated, Differentiation, stages, derivatives, partial_at}
 use Rattle.method.specs.Schedule.{unless_cached, derivative_items, jacobian_items, partial_items}
-use Rattle.method.specs.Conversation.{answer_to}
 use Rattle.method.proofs.Conforms.{step_of, Open, step_in, given_in, Conforms, goes_on, chosen, not_chosen, asks_rhs}
 use Rattle.method.proofs.Holds.{stored, Sums, sums_kept}
 use Rattle.method.proofs.Partial.{matrix_on}
@@ -57,24 +57,24 @@ module _ (o : Open) where
   -- the derivative: b says whether it is cached, and c whether the others are
   pub evaluates : (b c : Bool) (v : List Float) (d : Differentiation) (sc : Scratch) → sc.marks.memo.derivative_valid ≡ b → sc.marks.memo.differentiation_valid ≡ c
       → Sums p o.e o.fx.s 0 sc.work
-      → (b ≡ true → part (current_at o.fx.n) o.fx.n sc.work ≡ o.e.f₀) → (b ≡ false → o.problem.f o.x.time o.m.state ≡ o.e.f₀) → Differentiated c sc.work
+      → (b ≡ true → part (current_at o.fx.n) o.fx.n sc.work ≡ o.e.f₀) → (b ≡ false → o.answer Derivative o.x.time o.m.state ≡ o.e.f₀) → Differentiated c sc.work
       → length sc.pivots ≡ o.fx.n
       → Conforms o (unless_cached (then_some b v) (derivative_items p o.e) ++ (unless_cached (then_some c d) (jacobian_items p o.e ++ partial_items p o.e) ++ matrix_on p o.e))
       (evaluate (given_in o) sc)
-  unfolding pivots_unfit evaluate unless_cached derivative_items on_marks on_work noting with_caches with_derivative with_request_time resume written given_by state_asked kind_of answer_to needed_work
+  unfolding pivots_unfit evaluate unless_cached derivative_items on_marks on_work noting with_caches with_derivative with_request_time resume written given_by state_asked wanted needed_work
   evaluates true c v d sc flag flag₂ sums there is h rows = chosen _ flag (differentiates c d sc flag₂ sums (there refl) h rows)
   evaluates false c v d sc flag flag₂ sums there is h rows =
       let n = o.fx.n in
       let w = sc.work in
       let long = sums.long in
-      let f = o.problem.f o.x.time o.m.state in
+      let f = o.answer Derivative o.x.time o.m.state in
       let but = stored w (current_at n) (el f) n in
       not_chosen _ flag
       (asks_rhs refl (record { work = long; pivots = rows; range = tt; rows = refl })
       (goes_on _ (ap all_finite (is refl))
       (λ _.
       differentiates c d _ flag₂ (sums_kept but sums (omega arith))
-      (part_stored w (current_at n) f n nan (o.ready.sized.of_f o.x.time o.m.state) (omega arith) ∙ is refl)
+      (part_stored w (current_at n) f n nan (o.ready.long Derivative o.x.time o.m.state) (omega arith) ∙ is refl)
       (record {
         if_cached =
             λ q. (
@@ -119,9 +119,9 @@ module _ (fx : Fixed) (file : List ℕ) (x : Progress) (m : Lent) (state : lengt
       let same : length v ≡ length m.work = length-puts m.work _ _ n in
       part_left v (error_at n) _ n a c nan (omega arith) (inr (omega arith)) ∙ part_left m.work (candidate_at n) _ n a c nan h (inr (omega arith))
 
-  pub begun_sums : (problem : Problem) (e : Evaluated) → Sums (step_of fx file problem x m) e fx.s 0 w
+  pub begun_sums : (answer : Answers) (e : Evaluated) → Sums (step_of fx file answer x m) e fx.s 0 w
   unfolding needed_work new_state error_of plus_products
-  begun_sums problem e =
+  begun_sums answer e =
       record {
         long = begun_long;
         candidate_there = begun_candidate ∙ sym (table_own nan m.state fx.n state);

@@ -12,10 +12,10 @@ use Rattle.tableau.specs.File.{tableau_of}
 use Rattle.stages.specs.Layout.{current_at, time_partial_at, jacobian_at}
 use Rattle.refusals.specs.declared.Fixed.{Fixed}
 use Rattle.refusals.specs.declared.Progress.{Progress}
-use Rattle.refusals.specs.Answers.{Lent, Request, Kind, derivative, jacobian, time_partial, View, Answer, refused, asked, shown}
+use Rattle.refusals.specs.Answers.{Lent, Request, Kind, derivative, jacobian, time_partial, kind_of, View, Answer, refused, asked, shown}
 use Rattle.refusals.specs.Tests.{attempt_tests, step_tests}
 use Rattle.rosenbrock.specs.Calls.{Out, attempt_of, supply_of}
-use Rattle.method.specs.Step.{Problem, Attempted, Caches, Evaluated, evaluated, stages, derivatives, candidate, error}
+use Rattle.method.specs.Step.{Problem, Answers, Attempted, Caches, Evaluated, evaluated, stages, derivatives, candidate, error}
 use Rattle.method.specs.Schedule.{schedule, asks_for, ends_in}
 
 -- ---- the conversation
@@ -100,10 +100,10 @@ caches_in fx x m =
     }
 
 -- the step that an attempt with the step handed over is about: its h is the effective step
-unfoldable pub attempted_by : Fixed → List ℕ → Problem → Float → Bool → Bool → Progress → Lent → Attempted
-attempted_by fx file problem step host_J host_fₜ x m =
+abbrev pub attempted_with : Fixed → List ℕ → Answers → Float → Bool → Bool → Progress → Lent → Attempted
+attempted_with fx file answer step host_J host_fₜ x m =
     record {
-      problem = problem;
+      answer = answer;
       tableau = tableau_of file;
       policy = fx.policy;
       n = fx.n;
@@ -113,6 +113,10 @@ attempted_by fx file problem step host_J host_fₜ x m =
       host_jacobian = host_J;
       host_time_partial = host_fₜ;
     }
+
+-- where f, J and fₜ answer, whatever else was asked
+unfoldable pub attempted_by : Fixed → List ℕ → Problem → Float → Bool → Bool → Progress → Lent → Attempted
+attempted_by fx file problem step host_J host_fₜ x m = attempted_with fx file (λ a. answer_to problem (kind_of a)) step host_J host_fₜ x m
 
 -- An attempt that opens and whose requests are answered by f, J and fₜ asks for exactly the evaluations of its step, in order, less what is cached,
 -- and shows exactly that step, or ends in the refusal of the first test that holds.

@@ -1,3 +1,4 @@
 pub mod Step
 pub mod Schedule
 pub mod Conversation
+pub mod Turns

@@ -13,17 +13,16 @@ use Rattle.stepping.specs.declared.Refusal.TheVariants.{NonFinite, TimeResolutio
 use Rattle.stepping.specs.Refusals.{Test, ◌when◌}
 use Rattle.stepping.specs.Refusals as refusals
 use Rattle.stages.specs.Method.{stage_time}
+use Rattle.attempts.specs.declared.Ask.{Ask}
+use Rattle.attempts.specs.declared.Ask.TheVariants.{Derivative, Jacobian, TimePartial, FirstProbe, SecondProbe, Column, Stage}
 use Rattle.differentiation.specs.Differences.{rise}
-use Rattle.refusals.specs.Answers.{Request, Kind, derivative, jacobian, time_partial}
+use Rattle.refusals.specs.Answers.{Request, kind_of}
 use Rattle.method.specs.Step.{Attempted, Evaluated, matrix, state_of, reused, derivative_of, stage_of, stages, candidate, error, probed_state, Caches, evaluated}
 
--- an evaluation that is asked for, or a test
+-- an evaluation that is asked for, at a time and a state, or a test
 pub data Item : Type 0 where
-  evaluate : Request → Item
+  evaluate : Ask → Float → List Float → Item
   test : Test → Item
-
-abbrev pub at : Kind → Float → List Float → Item
-at kind time state = evaluate (record { kind = kind; time = time; state = state })
 
 -- 2 where a component is not finite
 abbrev pub finite_test : List Float → Item
@@ -35,11 +34,8 @@ unless_cached (Some x) items = []
 unless_cached None items = items
 
 module _ (p : Attempted) (e : Evaluated) where
-  abbrev f : Float → List Float → List Float
-  f = p.problem.f
-
   unfoldable pub derivative_items : List Item
-  derivative_items = at derivative p.t p.y ∷ finite_test e.f₀ ∷ []
+  derivative_items = evaluate Derivative p.t p.y ∷ finite_test e.f₀ ∷ []
 
   -- ---- the Jacobian
 
@@ -47,7 +43,11 @@ module _ (p : Attempted) (e : Evaluated) where
   unfoldable pub column_items : ℕ → List Item
   column_items k =
       let z = probed_state p e.f₀ k in
-      finite_test z ∷ test (TimeResolution when eq (rise (el p.y k)) 𝟎) ∷ at derivative p.t z ∷ finite_test (f p.t z) ∷ []
+      finite_test z
+      ∷ test (TimeResolution when eq (rise (el p.y k)) 𝟎)
+      ∷ evaluate (Column k) p.t z
+      ∷ finite_test (p.answer (Column k) p.t z)
+      ∷ []
 
   -- columns k, .., k + r - 1
   unfoldable pub columns_items : ℕ → ℕ → List Item
@@ -55,18 +55,23 @@ module _ (p : Attempted) (e : Evaluated) where
   columns_items k (suc r) = column_items k ++ columns_items (suc k) r
 
   unfoldable pub jacobian_items : List Item
-  jacobian_items = cond p.host_jacobian (at jacobian p.t p.y ∷ []) (columns_items 0 p.n) ++ (finite_test e.J ∷ [])
+  jacobian_items = cond p.host_jacobian (evaluate Jacobian p.t p.y ∷ []) (columns_items 0 p.n) ++ (finite_test e.J ∷ [])
 
   -- ---- the time partial
 
   unfoldable pub probe_items : Result (Float × Option Float) Refusal → List Item
   probe_items (Err refusal) = test (refusal when true) ∷ []
-  probe_items (Ok (a, None)) = at derivative a p.y ∷ finite_test (f a p.y) ∷ []
-  probe_items (Ok (a, Some b)) = at derivative a p.y ∷ finite_test (f a p.y) ∷ at derivative b p.y ∷ finite_test (f b p.y) ∷ []
+  probe_items (Ok (a, None)) = evaluate FirstProbe a p.y ∷ finite_test (p.answer FirstProbe a p.y) ∷ []
+  probe_items (Ok (a, Some b)) =
+      evaluate FirstProbe a p.y
+      ∷ finite_test (p.answer FirstProbe a p.y)
+      ∷ evaluate SecondProbe b p.y
+      ∷ finite_test (p.answer SecondProbe b p.y)
+      ∷ []
 
   unfoldable pub partial_items : List Item
   partial_items =
-      cond p.host_time_partial (at time_partial p.t p.y ∷ []) (probe_items (probes p.policy p.t p.h))
+      cond p.host_time_partial (evaluate TimePartial p.t p.y ∷ []) (probe_items (probes p.policy p.t p.h))
       ++ (finite_test e.fₜ ∷ [])
 
   -- ---- the matrix, and 6 where the elimination finds no pivot
@@ -81,7 +86,7 @@ module _ (p : Attempted) (e : Evaluated) where
   stage_derivative_items i u =
       let time = stage_time p.tableau p.t p.h i in
       cond (reused p e i) []
-      (test (NonFinite when not (finite time)) ∷ at derivative time (state_of p e i u) ∷ finite_test (derivative_of p e i u) ∷ [])
+      (test (NonFinite when not (finite time)) ∷ evaluate (Stage i) time (state_of p e i u) ∷ finite_test (derivative_of p e i u) ∷ [])
 
   unfoldable pub stage_items : ℕ → List Item
   stage_items i = let u = stages p e i in finite_test (state_of p e i u) ∷ (stage_derivative_items i u ++ (finite_test (stage_of p e i u) ∷ []))
@@ -106,12 +111,12 @@ schedule p c =
 
 unfoldable pub asks_for : List Item → List Request
 asks_for [] = []
-asks_for (evaluate r ∷ items) = r ∷ asks_for items
+asks_for (evaluate a time state ∷ items) = record { kind = kind_of a; time = time; state = state } ∷ asks_for items
 asks_for (test (refusal when true) ∷ items) = []
 asks_for (test (refusal when false) ∷ items) = asks_for items
 
 unfoldable pub ends_in : List Item → Option Refusal
 ends_in [] = None
-ends_in (evaluate r ∷ items) = ends_in items
+ends_in (evaluate a time state ∷ items) = ends_in items
 ends_in (test (refusal when true) ∷ items) = Some refusal
 ends_in (test (refusal when false) ∷ items) = ends_in items

@@ -13,6 +13,8 @@ use Rattle.time_difference.specs.declared.TimeDifferencePolicy.{TimeDifferencePo
 use Rattle.time_difference.specs.Policy.{probes}
 use Rattle.time_difference.specs.Probes.{partial}
 use Rattle.tableau.specs.Tableau.{Tableau, stages_of, c_of}
+use Rattle.attempts.specs.declared.Ask.{Ask}
+use Rattle.attempts.specs.declared.Ask.TheVariants.{Derivative, Jacobian, TimePartial, FirstProbe, SecondProbe, Column, Stage}
 use Rattle.stages.specs.Method.{stage_state, stage_time, right_hand_side, stage_matrix, stage_value, new_state, error_of}
 use Rattle.differentiation.specs.Differences.{rise, probe_state, quotient}
 
@@ -22,9 +24,14 @@ pub record Problem : Type 0 where
   pub J : Float → List Float → List Float
   pub fₜ : Float → List Float → List Float
 
+-- What a host answers where it is asked for a, at a time and a state: the Jacobian, the time partial, or, to every other ask, the derivative. A step makes
+-- each ask at most once, so these are also the answers of a host that is no function of time and state, as of one that counts its calls.
+abbrev pub Answers : Type 0
+Answers = Ask → Float → List Float → List Float
+
 -- a step that is attempted; the host supplies the Jacobian and the time partial, or they are probed, as the policy says for the latter
 pub record Attempted : Type 0 where
-  pub problem : Problem
+  pub answer : Answers
   pub tableau : Tableau
   pub policy : TimeDifferencePolicy
   pub n : ℕ
@@ -59,7 +66,7 @@ module _ (p : Attempted) (e : Evaluated) where
   reused i = eqb i 0 && eq (c_of p.tableau 0) 𝟎
 
   unfoldable pub derivative_of : ℕ → List Float → List Float
-  derivative_of i u = cond (reused i) e.f₀ (p.problem.f (stage_time p.tableau p.t p.h i) (state_of i u))
+  derivative_of i u = cond (reused i) e.f₀ (p.answer (Stage i) (stage_time p.tableau p.t p.h i) (state_of i u))
 
   -- stage i, u being the stages before it
   unfoldable pub stage_of : ℕ → List Float → List Float
@@ -91,20 +98,20 @@ module _ (p : Attempted) (f₀ : List Float) where
   probed_state k = table (probe_state k (el p.y)) p.n
 
   unfoldable pub probed_jacobian : List Float
-  probed_jacobian = rows (λ i k. quotient (rise (el p.y k)) (el (p.problem.f p.t (probed_state k))) (el f₀) i) p.n p.n
+  probed_jacobian = rows (λ i k. quotient (rise (el p.y k)) (el (p.answer (Column k) p.t (probed_state k))) (el f₀) i) p.n p.n
 
   -- from one probe or two; there is none where the policy refuses
   unfoldable pub probed_partial : Result (Float × Option Float) Refusal → List Float
-  probed_partial (Ok (a, None)) = table (λ k. partial false (el f₀ k) (el (p.problem.f a p.y) k) 𝟎 (a ⊖ p.t) 𝟎) p.n
+  probed_partial (Ok (a, None)) = table (λ k. partial false (el f₀ k) (el (p.answer FirstProbe a p.y) k) 𝟎 (a ⊖ p.t) 𝟎) p.n
   probed_partial (Ok (a, Some b)) =
-      table (λ k. partial true (el f₀ k) (el (p.problem.f a p.y) k) (el (p.problem.f b p.y) k) (a ⊖ p.t) (b ⊖ p.t)) p.n
+      table (λ k. partial true (el f₀ k) (el (p.answer FirstProbe a p.y) k) (el (p.answer SecondProbe b p.y) k) (a ⊖ p.t) (b ⊖ p.t)) p.n
   probed_partial (Err refusal) = []
 
   unfoldable pub jacobian_at : List Float
-  jacobian_at = cond p.host_jacobian (p.problem.J p.t p.y) probed_jacobian
+  jacobian_at = cond p.host_jacobian (p.answer Jacobian p.t p.y) probed_jacobian
 
   unfoldable pub partial_at : List Float
-  partial_at = cond p.host_time_partial (p.problem.fₜ p.t p.y) (probed_partial (probes p.policy p.t p.h))
+  partial_at = cond p.host_time_partial (p.answer TimePartial p.t p.y) (probed_partial (probes p.policy p.t p.h))
 
 -- ---- what is cached of them from an earlier attempt
 
@@ -118,7 +125,7 @@ pub record Caches : Type 0 where
 
 module _ (p : Attempted) (c : Caches) where
   unfoldable pub derivative_at : List Float
-  derivative_at = unwrap_or c.derivative (p.problem.f p.t p.y)
+  derivative_at = unwrap_or c.derivative (p.answer Derivative p.t p.y)
 
   unfoldable pub differentiation_at : Differentiation
   differentiation_at = unwrap_or c.differentiation (record { J = jacobian_at p derivative_at; fₜ = partial_at p derivative_at })

@@ -11,26 +11,27 @@ use Rattle.float.specs.Operators.{𝟎}
 use Rattle.stepping.specs.Refusals.{Test, ◌when◌}
 use Rattle.time_difference.specs.Policy.{probes}
 use Rattle.tableau.specs.Tableau.{stages_of}
-use Rattle.refusals.specs.Answers.{jacobian, time_partial, Request}
+use Rattle.attempts.specs.declared.Ask.{Ask}
+use Rattle.attempts.specs.declared.Ask.TheVariants.{Jacobian, TimePartial}
 use Rattle.method.specs.Step.{Attempted, Evaluated, Caches, evaluated, reused}
-use Rattle.method.specs.Schedule.{Item, evaluate, test, at, finite_test, unless_cached, derivative_items, columns_items, jacobian_items, probe_items, partial_items, matrix_items, stage_derivative_items, stage_items, stages_items, end_items, schedule, asks_for}
+use Rattle.method.specs.Schedule.{Item, evaluate, test, finite_test, unless_cached, derivative_items, columns_items, jacobian_items, probe_items, partial_items, matrix_items, stage_derivative_items, stage_items, stages_items, end_items, schedule, asks_for}
 use Rattle.method.specs.Conversation.{requests_of}
 
 abbrev evaluations : List Item → ℕ
 evaluations [] = 0
-evaluations (evaluate r ∷ items) = suc (evaluations items)
+evaluations (evaluate a t z ∷ items) = suc (evaluations items)
 evaluations (test t ∷ items) = evaluations items
 
 asks_few : (items : List Item) → length (asks_for items) ≤ evaluations items
 unfolding asks_for
 asks_few [] = omega arith
-asks_few (evaluate r ∷ items) = let h = asks_few items in omega arith
+asks_few (evaluate a t z ∷ items) = let h = asks_few items in omega arith
 asks_few (test (refusal when true) ∷ items) = omega arith
 asks_few (test (refusal when false) ∷ items) = asks_few items
 
 joined : (xs ys : List Item) → evaluations (xs ++ ys) ≡ evaluations xs + evaluations ys
 joined [] ys = omega arith
-joined (evaluate r ∷ xs) ys = let h = joined xs ys in omega arith
+joined (evaluate a t z ∷ xs) ys = let h = joined xs ys in omega arith
 joined (test t ∷ xs) ys = joined xs ys
 
 unless_few : {A : Type 0} (k : Option A) (items : List Item) → evaluations (unless_cached k items) ≤ evaluations items
@@ -38,9 +39,9 @@ unfolding unless_cached
 unless_few (Some x) items = omega arith
 unless_few None items = omega arith
 
-one_or_none : (b : Bool) (t u v : Test) (r : Request) → evaluations (cond b [] (test t ∷ evaluate r ∷ test u ∷ []) ++ (test v ∷ [])) ≤ 1
-one_or_none true t u v r = omega arith
-one_or_none false t u v r = omega arith
+one_or_none : (b : Bool) (t u v : Test) (a : Ask) (time : Float) (z : List Float) → evaluations (cond b [] (test t ∷ evaluate a time z ∷ test u ∷ []) ++ (test v ∷ [])) ≤ 1
+one_or_none true t u v a time z = omega arith
+one_or_none false t u v a time z = omega arith
 
 module _ (p : Attempted) (e : Evaluated) where
   of_derivative : evaluations (derivative_items p e) ≡ 1
@@ -49,11 +50,11 @@ module _ (p : Attempted) (e : Evaluated) where
 
   of_jacobian : p.host_jacobian ≡ true → evaluations (jacobian_items p e) ≡ 1
   unfolding jacobian_items
-  of_jacobian h = ap (λ (b : Bool). evaluations (cond b (at jacobian p.t p.y ∷ []) (columns_items p e 0 p.n) ++ (finite_test e.J ∷ []))) h
+  of_jacobian h = ap (λ (b : Bool). evaluations (cond b (evaluate Jacobian p.t p.y ∷ []) (columns_items p e 0 p.n) ++ (finite_test e.J ∷ []))) h
 
   of_partial : p.host_time_partial ≡ true → evaluations (partial_items p e) ≡ 1
   unfolding partial_items
-  of_partial h = ap (λ (b : Bool). evaluations (cond b (at time_partial p.t p.y ∷ []) (probe_items p e (probes p.policy p.t p.h)) ++ (finite_test e.fₜ ∷ []))) h
+  of_partial h = ap (λ (b : Bool). evaluations (cond b (evaluate TimePartial p.t p.y ∷ []) (probe_items p e (probes p.policy p.t p.h)) ++ (finite_test e.fₜ ∷ []))) h
 
   of_matrix : evaluations (matrix_items p e) ≡ 0
   unfolding matrix_items
@@ -61,7 +62,7 @@ module _ (p : Attempted) (e : Evaluated) where
 
   of_stage : (i : ℕ) → evaluations (stage_items p e i) ≤ 1
   unfolding stage_items stage_derivative_items
-  of_stage i = one_or_none (reused p e i) _ _ _ _
+  of_stage i = one_or_none (reused p e i) _ _ _ _ _ _
 
   of_stages : (i r : ℕ) → evaluations (stages_items p e i r) ≤ r
   unfolding stages_items
