@@ -21,8 +21,8 @@ use Rattle.rosenbrock.specs.Stepper.{Call, attempt, attempt_to, supply, fail, ac
 use Rattle.method.specs.Step.{Answers, Attempted, Caches}
 use Rattle.method.specs.Conversation.{requests_of, answer_of, caches_in, attempted_with}
 
--- ---- which of a step's requests comes first, from 0: that for the derivative, for the Jacobian or its columns, for the time partial or its probes, and
--- for the stages, less what is cached
+-- ---- the order of a step's requests: for the derivative, for the Jacobian or its columns, for the time partial or its probes, for the stages, less what
+-- is cached
 
 unfoldable pub probe_count : Result (Float × Option Float) Refusal → ℕ
 probe_count (Ok (a, None)) = 1
@@ -42,7 +42,7 @@ module _ (p : Attempted) (c : Caches) where
       cond (is_some c.differentiation) before_jacobian
       (before_partial + cond p.host_time_partial 1 (probe_count (probes p.policy p.t p.h)))
 
-  -- none is for the first stage where its c is a zero
+  -- the place of each, from 0; none is for the first stage where its c is a zero
   unfoldable pub place : Ask → ℕ
   place Derivative = 0
   place Jacobian = before_jacobian
@@ -52,7 +52,7 @@ module _ (p : Attempted) (c : Caches) where
   place SecondProbe = suc before_partial
   place (Stage i) = before_stages + cond (eq (c_of p.tableau 0) 𝟎) (i - 1) i
 
--- the answers are vs, in that order; each is as many values as are asked for, so one of another length, which is refused, is none
+-- the answers are vs, in that order, each of as many values as are asked for: a supply of another length is refused, and answers nothing
 unfoldable pub in_turn : ℕ → (Ask → ℕ) → List (List Float) → Answers
 in_turn n place vs a t y = table (el (get_or vs (place a) [])) (wanted n a)
 
@@ -110,8 +110,8 @@ pub record Idle (fx : Fixed) (c : Call) (x : Progress) (m : Lent) : Type 0 where
   pub is_idle : refused_or_told answer ≡ true
   pub leaves : called fx c x m ≡ record { progress = x; lent = m; counted = nothing_counted; answer = answer }
 
--- What the host does after a call that left `out`. It is asked for just rs, in this order, and supplies its answer to each. A failure that it reports closes
--- the attempt, and nothing else changes. After any other call the request stands as before. The last answer that it supplies is answered `last`.
+-- What the host does after a call that left `out`. It is asked for just rs, in this order, and supplies its answer to each; until it does, the request
+-- stands. A failure that it reports closes the attempt, and nothing else changes. Any other call leaves all as it was. The last supply answers `last`.
 unfoldable pub Exchange : Fixed → List ℕ → List Turn → List Request → Out → Answer → Type 0
 Exchange fx file [] [] out last = out.answer ≡ last
 Exchange fx file [] (r ∷ rs) out last = out.answer ≡ asked r
@@ -127,7 +127,7 @@ Exchange fx file (calls c ∷ ts) (r ∷ rs) out last =
 -- ---- the claim
 
 -- After an attempt that opens, whatever the host does, it is asked for exactly the evaluations of the step that its answers make, in order, less what is
--- cached, and is shown exactly that step, or the attempt ends in the refusal of the first test that holds. Of too few answers these are the first requests.
+-- cached, and is shown exactly that step, or the attempt ends in the refusal of the first test that holds.
 abbrev pub AttemptIsStepOfItsAnswers : Type 0
 AttemptIsStepOfItsAnswers = (fx : Fixed) (file : List ℕ) (step : Float) (host_J host_fₜ : Bool) (x : Progress) (m : Lent) (turns : List Turn)
     → first_of (attempt_tests fx file x m) ≡ Ok tt
