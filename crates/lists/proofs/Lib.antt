@@ -5,6 +5,7 @@ mod Fresh
 mod Booked
 mod Firsts
 mod Endings
+mod Running
 pub mod Accepting
 pub mod Refused
 pub mod Telling

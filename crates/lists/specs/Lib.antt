@@ -4,4 +4,5 @@ pub mod Claim
 pub mod Opening
 pub mod Accepting
 pub mod Refused
+pub mod Orders
 pub mod Telling
