@@ -1,5 +1,5 @@
--- The guess of a first step that is not refused is a finite number above 0: no test of the guess could refuse one. And the maximum is no
--- zero: so a minimum with it is never of two zeros. Assumes nothing.
+-- The guess of a first step that is not refused is a finite number above 0: no test of the guess could refuse one. So the step goes in the direction.
+-- And the maximum is no zero: so a minimum with it is never of two zeros. Assumes nothing.
 use mathlib.Core.Path.{◌≡◌, refl, sym, ap, ◌∙◌, subst}
 use mathlib.Core.Bool.{Bool, true, false, not, ◌&&◌, ◌||◌, cond, false≢true}
 use mathlib.Core.List.{List, [], ◌∷◌}
@@ -7,24 +7,26 @@ use Prim.Native.Nat.{ℕ, zero, suc, ◌*◌, ◌^◌, ◌≤◌, ◌<◌}
 use native.Mathlib.Nat.{le_trans, le_of_eq, le_of_lt, one-mul, mul_comm, mul_assoc, mul_left_comm, mul-le-mul_left, mul-le-mul, le_of_mul-le-mul_left, mul-pos, zero-lt-suc}
 use native.Mathlib.Omega.{arith}
 use lib.ListN.{length}
-use lib.IntN.{pos}
-use lib.Dec.{T, leb, ltb, leb→le, ltb→lt}
+use lib.IntN.{ℤ, pos}
+use lib.Dec.{T, leb, ltb, eqb, leb→le, ltb→lt}
 use lib.Pow.{pow_pos}
-use lib.Ieee.{Float, nan, inf, fin, binary64, up, down, round, of_bits, mul, div, lt, eq, le, ne, fits, of_int}
-use borrow.Author.Tests.{lt-ltb}
-use lib.Ieee.Fits.{up_pos, down_pos, mul-fits}
+use lib.Ieee.{Float, nan, inf, fin, binary64, up, down, unlike, neg, round, of_bits, mul, div, lt, eq, le, ne, fits, is_nan, of_int}
+use borrow.Author.Tests.{lt-ltb, eqb-true, not-false}
+use lib.Ieee.Fits.{up_pos, down_pos, mul-fits, div-fits, neg-fits, cond-fits}
+use lib.Ieee.Bits.{of_bits-fits}
 use lib.Ieee.Scale.{finite}
 use lib.Ieee.Order.{round_mono}
 use lib.Ieee.Positive.{num, den, positive, above, above_of_le, le→cross, mul_mono}
-use Rattle.std.specs.Prelude.{Result, Ok, Err, ⊤, OnOk}
+use Rattle.std.specs.Prelude.{Result, Ok, Err, ⊤, IfOk, OnOk}
 use Rattle.float.specs.Operators.{◌⊗◌, ◌⊘◌, 𝟎, 𝟏}
 use Rattle.float.specs.Constants.{ten⁻⁵, ten⁻⁶, hundredth}
 use Rattle.float.specs.Methods.{abs, min_num, finite_positive}
-use Rattle.float.proofs.Cases.{holds, both, or_left, or_right}
+use Rattle.float.proofs.Cases.{holds, both, and_left, or_left, or_right}
 use Rattle.float.proofs.Laws.{some}
-use Rattle.float.proofs.Own.{fit}
-use Rattle.float.proofs.Positive.{above-finite, positive_some, over_zero, smaller, div_some}
+use Rattle.float.proofs.Own.{fit, round_own}
+use Rattle.float.proofs.Positive.{above-finite, positive-finite, positive_some, over_zero, smaller, div_some}
 use Rattle.float.proofs.Order.{not_lt_le}
+use Rattle.float.proofs.Quotients.{lt_self}
 use Rattle.vector.specs.Lists.{every, all_finite}
 use Rattle.vector.proofs.Lists.{finite_at}
 use Rattle.square_root.specs.Root.{square_root}
@@ -33,7 +35,7 @@ use Rattle.stepping.specs.declared.Refusal.TheVariants.{Dimension, NonFinite, Di
 use Rattle.stepping.specs.Refusals.{first_of, unless_refused}
 use Rattle.stepping.proofs.Refusals.{passed, held}
 use Rattle.initial_step.specs.Norm.{scaled_sum, mean, ratios, rms}
-use Rattle.initial_step.specs.First.{all_above, undirected, input_tests, slight, unbounded, guess, proposed, initial_step}
+use Rattle.initial_step.specs.First.{Directed, all_above, undirected, input_tests, slight, unbounded, guess, proposed, initial_step}
 
 positive_told : (x : Float) → T (positive x) → finite_positive x ≡ true
 unfolding finite_positive lt of_bits
@@ -158,7 +160,81 @@ rms-fits v s = go (every (length v) (λ j. finite (ratios v s j)))
         mul-fits binary64 t.largest (square_root (t.sum ⊘ of_int binary64 (pos (length v))))
     go false = tt
 
+-- ---- a positive number in a direction
+times : (s t : Bool) (m n : ℕ) (e d : ℤ) → T (fits binary64 (fin (unlike s t) n d)) → m * up e ≡ down e → fin s m e ⊗ fin t n d ≡ fin (unlike s t) n d
+unfolding mul
+times s t m n e d f h =
+    let k : n * up d * (down e * down d) ≡ down e * (n * up d) * down d = simp (mul_assoc, mul_comm, mul_left_comm) in
+    round_own (unlike s t) n d (m * up e * (n * up d)) (down e * down d) f (mul-pos (down_pos e) (down_pos d)) (k ∙ ap (λ (z : ℕ). z * (n * up d) * down d) (sym h))
+
+with_sign : (s : Bool) (n : ℕ) (d : ℤ) → T (fits binary64 (fin false n d)) → T (fits binary64 (fin s n d))
+unfolding neg
+with_sign false n d f = f
+with_sign true n d f = neg-fits binary64 (fin false n d) f
+
+going : (x top v : Float) → T (fits binary64 x) → eq (abs x) 𝟏 ≡ true → T (fits binary64 v) → T (positive v) → le v top ≡ true → Directed x top (x ⊗ v)
+unfolding abs eq of_bits
+going nan top v f h g p l = absurd (false≢true h)
+going (inf s) top v f h g p l = absurd (false≢true h)
+going (fin s m e) top nan f h g p l = absurd p
+going (fin s m e) top (inf t) f h g p l = absurd p
+going (fin s m e) top (fin true n d) f h g p l = absurd p
+going (fin s m e) top (fin false n d) f h g p l =
+    let u : m * up e ≡ down e = omega (arith, eqb-true (m * up e * 1) (1 * 1 * down e) (and_left (eqb (m * up e * 1) (1 * 1 * down e)) _ h)) in
+    both_signs s u
+  where
+    both_signs : (s : Bool) → m * up e ≡ down e → Directed (fin s m e) top (fin s m e ⊗ fin false n d)
+    both_signs true u =
+        let a = times true false m n e d (with_sign true n d g) u in
+        let b = times true true m n e d g u in
+        record {
+          finite_step = ap finite a;
+          ahead = ap (λ (z : Float). finite_positive (fin true m e ⊗ z)) a ∙ ap finite_positive b ∙ positive_told (fin false n d) p;
+          at_most = ap (λ (z : Float). le (abs z) top) a ∙ l;
+        }
+    both_signs false u =
+        let a = times false false m n e d g u in
+        record {
+          finite_step = ap finite a;
+          ahead = ap (λ (z : Float). finite_positive (fin false m e ⊗ z)) a ∙ ap finite_positive a ∙ positive_told (fin false n d) p;
+          at_most = ap (λ (z : Float). le (abs z) top) a ∙ l;
+        }
+
+min_fits : (x m : Float) → T (fits binary64 x) → T (fits binary64 m) → T (fits binary64 (min_num x m))
+min_fits x m f g = cond-fits binary64 (is_nan x) m (cond (lt m x) m x) g (cond-fits binary64 (lt m x) m x g f)
+
+min_at_most : (x m : Float) → finite x ≡ true → finite m ≡ true → le (min_num x m) m ≡ true
+min_at_most x m f g = go (is_nan x) (lt m x) refl
+  where
+    own : le m m ≡ true
+    own = not_lt_le m m g g (lt_self m)
+
+    go : (a b : Bool) → lt m x ≡ b → le (cond a m (cond b m x)) m ≡ true
+    go true b h = own
+    go false true h = own
+    go false false h = not_lt_le m x g f h
+
+guess-fits : (d₀ d₁ maximum : Float) → T (fits binary64 maximum) → T (fits binary64 (guess d₀ d₁ maximum))
+unfolding guess
+guess-fits d₀ d₁ maximum m =
+    cond-fits binary64 (slight d₀ d₁) ten⁻⁶ (min_num (hundredth ⊗ d₀ ⊘ d₁) maximum) (of_bits-fits binary64 _)
+    (min_fits (hundredth ⊗ d₀ ⊘ d₁) maximum (div-fits binary64 (hundredth ⊗ d₀) d₁) m)
+
+above_of_positive : (x : Float) → T (positive x) → T (above x)
+above_of_positive nan p = p
+above_of_positive (inf s) p = absurd p
+above_of_positive (fin true n d) p = p
+above_of_positive (fin false n d) p = p
+
 module _ (y f s : List Float) (direct maximum : Float) where
+  direct-unit : first_of (input_tests y f s direct maximum) ≡ Ok tt → eq (abs direct) 𝟏 ≡ true
+  unfolding input_tests undirected ne
+  direct-unit h =
+      let p = (held NonFinite _ _ (held NonFinite _ _ (held NonFinite _ _ (held Dimension _ _ h).1).1).1).1 in
+      let q = held NonFinite (all_finite (direct ∷ maximum ∷ [])) _ p in
+      let u = (passed Direction (not (all_above s) || (ne (abs direct) 𝟏 || le maximum 𝟎)) [] q.1).0 in
+      not-false (eq (abs direct) 𝟏) (or_left (ne (abs direct) 𝟏) (le maximum 𝟎) (or_right (not (all_above s)) _ u))
+
   maximum-positive : first_of (input_tests y f s direct maximum) ≡ Ok tt → T (positive maximum)
   unfolding input_tests undirected
   maximum-positive h =
@@ -167,18 +243,41 @@ module _ (y f s : List Float) (direct maximum : Float) where
       let u = (passed Direction (not (all_above s) || (ne (abs direct) 𝟏 || le maximum 𝟎)) [] q.1).0 in
       over_zero maximum (finite_at (direct ∷ maximum ∷ []) 1 q.0 (omega arith)) (or_right (ne (abs direct) 𝟏) (le maximum 𝟎) (or_right (not (all_above s)) _ u))
 
-  pub guess_above : {r : Result Float Refusal} → r ≡ initial_step y f s direct maximum → OnOk r (finite_positive (guess (rms y s) (rms f s) maximum) ≡ true)
-  unfolding initial_step unless_refused proposed
-  guess_above {r} e = subst (λ (w : Result Float Refusal). OnOk w (finite_positive (guess (rms y s) (rms f s) maximum) ≡ true)) (sym e) (go (first_of (input_tests y f s direct maximum)) refl (unbounded (rms y s) (rms f s)) refl)
-    where
-      answer : Float
-      answer = direct ⊗ min_num (guess (rms y s) (rms f s) maximum) maximum
+  abbrev g : Float
+  g = guess (rms y s) (rms f s) maximum
 
+  abbrev answer : Float
+  answer = direct ⊗ min_num g maximum
+
+  -- what holds of the answer where nothing is refused
+  answered : (P : Float → Type 0) → (first_of (input_tests y f s direct maximum) ≡ Ok tt → unbounded (rms y s) (rms f s) ≡ false → P answer)
+      → {r : Result Float Refusal} → r ≡ initial_step y f s direct maximum → IfOk r P
+  unfolding initial_step unless_refused proposed
+  answered P h {r} e =
+      subst (λ (w : Result Float Refusal). IfOk w P) (sym e)
+      (go (first_of (input_tests y f s direct maximum)) refl (unbounded (rms y s) (rms f s)) refl)
+    where
       go : (r : Result ⊤ Refusal) → first_of (input_tests y f s direct maximum) ≡ r → (b : Bool) → unbounded (rms y s) (rms f s) ≡ b
-          → OnOk (unless_refused Err r (cond b (Err FirstStep) (Ok answer))) (finite_positive (guess (rms y s) (rms f s) maximum) ≡ true)
-      go (Err k) p b h = tt
-      go (Ok x) p true h = tt
-      go (Ok x) p false h = positive_told _ (guess-positive (rms y s) (rms f s) maximum (rms-fits f s) (maximum-positive p) h)
+          → IfOk (unless_refused Err r (cond b (Err FirstStep) (Ok answer))) P
+      go (Err k) p b q = tt
+      go (Ok x) p true q = tt
+      go (Ok x) p false q = h p q
+
+  g-positive : first_of (input_tests y f s direct maximum) ≡ Ok tt → unbounded (rms y s) (rms f s) ≡ false → T (positive g)
+  g-positive p q = guess-positive (rms y s) (rms f s) maximum (rms-fits f s) (maximum-positive p) q
+
+  pub guess_above : {r : Result Float Refusal} → r ≡ initial_step y f s direct maximum → OnOk r (finite_positive g ≡ true)
+  guess_above {r} e = answered (λ _. finite_positive g ≡ true) (λ p q. positive_told g (g-positive p q)) e
+
+  pub directed : T (fits binary64 direct) → T (fits binary64 maximum) → {r : Result Float Refusal} → r ≡ initial_step y f s direct maximum → IfOk r (Directed direct maximum)
+  directed d m {r} e =
+      answered (Directed direct maximum)
+      (λ p q.
+      let top = maximum-positive p in
+      let v = min_num g maximum in
+      going direct maximum v d (direct-unit p) (min_fits g maximum (guess-fits (rms y s) (rms f s) maximum m) m)
+      (smaller g maximum (above_of_positive g (g-positive p q)) top) (min_at_most g maximum (positive-finite g (g-positive p q)) (positive-finite maximum top)))
+      e
 
   -- each minimum is with the maximum, which is then no zero
   pub maximum_no_zero : first_of (input_tests y f s direct maximum) ≡ Ok tt → eq maximum 𝟎 ≡ false

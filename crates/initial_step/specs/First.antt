@@ -1,12 +1,12 @@
 -- The starting step size (Hairer, Nørsett and Wanner, Solving Ordinary Differential Equations I, II.4, the first guess): with the norms d₀ of the state
 -- and d₁ of its derivative, a hundredth of d₀ / d₁, or 1e-6 where a norm is below 1e-5; at most the maximum, in the direction. Definitions only.
-use Rattle.std.specs.Prelude.{Bool, not, ◌&&◌, ◌||◌, cond, List, [], ◌∷◌, length, Float, Result, Ok, Err}
+use Rattle.std.specs.Prelude.{◌≡◌, Bool, true, not, ◌&&◌, ◌||◌, cond, List, [], ◌∷◌, length, Float, Result, Ok, Err}
 use Rattle.std.specs.List.{list_all}
 use Rattle.std.specs.Float.Ieee.{lt, le, ne}
 use Rattle.std.specs.Float.Ieee.Scale.{finite}
 use Rattle.float.specs.Operators.{◌⊗◌, ◌⊘◌, 𝟎, 𝟏}
 use Rattle.float.specs.Constants.{ten⁻⁵, ten⁻⁶, hundredth}
-use Rattle.float.specs.Methods.{abs, min_num}
+use Rattle.float.specs.Methods.{abs, min_num, finite_positive}
 use Rattle.stepping.specs.Dimension.{same_dimension}
 use Rattle.stepping.specs.declared.Refusal.{Refusal}
 use Rattle.stepping.specs.declared.Refusal.TheVariants.{Dimension, Direction, FirstStep}
@@ -52,3 +52,9 @@ proposed d₀ d₁ direct maximum = cond (unbounded d₀ d₁) (Err FirstStep) (
 unfoldable pub initial_step : List Float → List Float → List Float → Float → Float → Result Float Refusal
 initial_step y f s direct maximum =
     unless_refused Err (first_of (input_tests y f s direct maximum)) (proposed (rms y s) (rms f s) direct maximum)
+
+-- a step h of the direction 1 or -1: finite, no zero, in the direction, and at most the maximum
+pub record Directed (direct maximum h : Float) : Type 0 where
+  pub finite_step : finite h ≡ true
+  pub ahead : finite_positive (direct ⊗ h) ≡ true
+  pub at_most : le (abs h) maximum ≡ true

@@ -1,10 +1,10 @@
 // The first step: a guess from the state, its derivative and the scales of the components.
 #![tactic(auto)]
 
-ghost use Rattle.std.specs.Prelude.{◌≡◌, ◌≤◌, true, length, OnOk};
+ghost use Rattle.std.specs.Prelude.{◌≡◌, ◌≤◌, true, length, IfOk, OnOk};
 ghost use Rattle.float.specs.Methods.{finite_positive};
 ghost use Rattle.initial_step.specs.Norm.{ratio, square, raised, summed, added, mean, rms};
-ghost use Rattle.initial_step.specs.First.{all_above, undirected, slight, unbounded, guess, proposed, initial_step};
+ghost use Rattle.initial_step.specs.First.{Directed, all_above, undirected, slight, unbounded, guess, proposed, initial_step};
 
 use stepping::Refusal;
 
@@ -148,6 +148,7 @@ fn proposed(d0: f64, d1: f64, direction: f64, maximum: f64) -> Result<f64, Refus
     Ok(direction * float::min(h, maximum))
 }
 
+// The first step. Nothing tests the guess: wherever a step is answered, it is finite and above 0.
 #[tactic(auto, using(stepping::proofs::Dimension::sizes), unfolding(crate::specs::First::initial_step, crate::specs::First::input_tests, stepping::specs::Refusals::first_of, stepping::specs::Refusals::unless_refused))]
 pub fn initial_step(
     state: &[f64],
@@ -157,6 +158,7 @@ pub fn initial_step(
     maximum: f64,
 ) -> Result<f64, Refusal>
     ensures step { result ≡ initial_step state.now derivative.now scales.now direction maximum }
+    ensures directed { IfOk result (Directed direction maximum) }
     ensures guessed { OnOk result (finite_positive (guess (rms state.now scales.now) (rms derivative.now scales.now) maximum) ≡ true) }
 {
     if !stepping::same_dimension(state.len(), derivative.len(), scales.len()) {
