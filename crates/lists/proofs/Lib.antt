@@ -1,5 +1,5 @@
--- EveryList has the theorems about lists, Accepting, Refused and Telling those about every call, Lines those about one; the others lead to them.
--- Dependents may cite Steady too.
+-- EveryList has the theorems about lists, Counting and Caches those about counters and caches, Accepting, Refused and Telling those about every call, Lines
+-- those about one; the others lead to them. Dependents may cite Steady too.
 mod Alike
 mod Fresh
 mod Booked
@@ -10,5 +10,13 @@ pub mod Accepting
 pub mod Refused
 pub mod Telling
 pub mod Steady
+mod Known
+mod Tallied
+mod Kept
+mod Noted
+pub mod Caches
+mod Reached
+mod Told
+pub mod Counting
 pub mod EveryList
 pub mod Lines

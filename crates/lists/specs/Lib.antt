@@ -2,6 +2,8 @@ pub mod Run
 pub mod Book
 pub mod Claim
 pub mod Opening
+pub mod Caching
+pub mod Counting
 pub mod Accepting
 pub mod Refused
 pub mod Orders

@@ -6,7 +6,9 @@ ghost use Rattle.rosenbrock.specs.Outcomes.{system_of, next_of};
 ghost use Rattle.lists.specs.Run.{after};
 ghost use Rattle.lists.specs.Orders.{last_of, calls_of};
 ghost use Rattle.lists.specs.Accepting.{OthersLeaveIt, AcceptTakesTheCandidate, ResetTakesBoth};
+ghost use Rattle.lists.specs.Caching.{EveryCache};
 ghost use Rattle.lists.specs.Claim.{EveryList, AlwaysFits, TailUntouched, ReadersChangeNothing};
+ghost use Rattle.lists.specs.Counting.{EveryCounter};
 ghost use Rattle.lists.specs.Refused.{EveryRefusal};
 ghost use Rattle.lists.specs.Telling.{ReadersTellTheAnswer};
 
@@ -73,4 +75,10 @@ pub fn every_refusal()
 // What the readers tell after a call that shows a step view, or asks.
 pub fn readers_tell()
     ensures tell_the_answer { ReadersTellTheAnswer }
+{}
+
+// What the counters tell after every list of calls, and what is cached then.
+pub fn every_counter()
+    ensures counts { EveryCounter }
+    ensures caches { EveryCache }
 {}
