@@ -1,5 +1,5 @@
 -- What is cached is told by the calls. Assumes nothing.
-use Prim.Native.Nat.{ℕ, ◌+◌, ◌*◌, ◌≤◌}
+use Prim.Native.Nat.{ℕ, ◌*◌, ◌≤◌}
 use native.Mathlib.Omega.{arith}
 use mathlib.Core.Path.{◌≡◌, refl, sym, ap, ◌∙◌, subst}
 use mathlib.Core.Bool.{Bool, true, false, not, ◌&&◌, ◌||◌, cond}
@@ -21,14 +21,14 @@ use Rattle.stages.specs.Layout.{current_at, time_partial_at, needed_work}
 use Rattle.attempts.specs.declared.Ask.{Ask}
 use Rattle.attempts.specs.declared.Ask.TheVariants.{Derivative, Jacobian, TimePartial, FirstProbe, SecondProbe, Column, Stage}
 use Rattle.attempts.specs.declared.Memo.{Memo}
-use Rattle.attempts.specs.Marks.{Marks, with_caches, with_derivative, with_error_shown, with_request_time, noting, counting, nothing_counted, one_attempt}
-use Rattle.attempts.specs.Attempt.{Ending, Asks, Ends, Shows, Given, Scratch, Stopped, on_work, on_marks, halt, refuse, ask, ask_rhs, choose, show, evaluate, differentiate, start, written, resume, wanted}
+use Rattle.attempts.specs.Marks.{with_caches, with_derivative, with_error_shown, with_request_time, noting, counting, nothing_counted, one_attempt}
+use Rattle.attempts.specs.Attempt.{Ending, Asks, Ends, Shows, Given, Scratch, Stopped, on_work, on_marks, halt, refuse, ask, ask_rhs, choose, show, evaluate, start, written, resume, wanted}
 use Rattle.refusals.specs.declared.Fixed.{Fixed}
 use Rattle.refusals.specs.declared.Progress.{Progress}
 use Rattle.refusals.specs.Requests.{is_open, ask_of, request_after, stage_after}
 use Rattle.refusals.specs.Answers.{Lent}
 use Rattle.refusals.specs.Tests.{step_tests, supply_tests}
-use Rattle.refusals.proofs.Fitting.{LentShape, fits_passed}
+use Rattle.refusals.proofs.Fitting.{fits_passed}
 use Rattle.refusals.proofs.Requests.{read_back}
 use Rattle.refusals.proofs.Passed.{supply_passed, supply_values}
 use Rattle.phases.specs.Phases.{opening, memo_accepted, fresh}

@@ -1,4 +1,4 @@
--- The matrix and all that comes after it leave the time partial where it is. Assumes nothing.
+-- The matrix and all that comes after it leave the time partial as it is. Assumes nothing.
 use Prim.Native.Nat.{ℕ, suc, ◌+◌, ◌*◌, ◌≤◌}
 use native.Mathlib.Omega.{arith}
 use mathlib.Core.Path.{◌≡◌, refl, ◌∙◌}
@@ -11,7 +11,7 @@ use Rattle.vector.specs.Parts.{part, puts}
 use Rattle.vector.proofs.Parts.{part_left}
 use Rattle.vector.proofs.Stores.{length-puts}
 use Rattle.stepping.specs.declared.Refusal.{Refusal}
-use Rattle.stages.specs.Layout.{time_partial_at}
+use Rattle.stages.specs.Layout.{time_partial_at, rhs_stage_at}
 use Rattle.stages.specs.Memory.{with_stage_state, with_right_hand_side, with_solution, with_stage, with_stage_solved, with_added, with_stage_added, with_matrix, with_factors}
 use Rattle.attempts.specs.Attempt.{Given, Scratch, Stopped, on_work, on_marks, halt, refuse, ask, ask_rhs, provided, show, finish, ask_stage, open_stage, next_stage, solve_stage, first_stage, factor, partial_done}
 use Rattle.lists.proofs.Tallied.{choose_either, provided_either}
@@ -73,17 +73,27 @@ module _ (g : Given) (w : List Float) (room : 5 * g.setting.n ≤ length w) wher
   unfolding next_stage
   next_stage_kept i x h = choose_either Then _ _ _ (finish_kept x h) (open_stage_kept i x h)
 
+  solved_kept : (pivots : List ℕ) (i : ℕ) (v : List Float) → Kept n w room v → Kept n w room (with_stage_solved n s g.tableau pivots i g.setting.step v)
+  unfolding with_stage_solved with_stage with_solution with_right_hand_side
+  solved_kept pivots i v h = past n w room _ _ _ n (omega arith) (past n w room _ _ _ n (omega arith) (past n w room v _ _ n (omega arith) h))
+
+  added_kept : (i : ℕ) (v : List Float) → Kept n w room v → Kept n w room (with_stage_added n g.tableau i v)
+  unfolding with_stage_added with_added
+  added_kept i v h = before n w room _ _ _ n (omega arith) (before n w room v _ _ n (omega arith) h)
+
   solve_stage_kept : (i : ℕ) (x : Scratch) → Now x → Then (solve_stage g i x)
-  unfolding solve_stage on_work on_marks with_stage_solved with_stage with_solution with_right_hand_side with_stage_added with_added
+  unfolding solve_stage on_work on_marks
   solve_stage_kept i x h =
-      let y = past n w room _ _ _ n (omega arith) (past n w room _ _ _ n (omega arith) (past n w room x.work _ _ n (omega arith) h)) in
-      provided_kept _ _ _ _ y (next_stage_kept (suc i) _ (before n w room _ _ _ n (omega arith) (before n w room _ _ _ n (omega arith) y)))
+      let y = solved_kept x.pivots i x.work h in provided_kept _ _ _ _ y (next_stage_kept (suc i) _ (added_kept i _ y))
+
+  first_kept : (f : ℕ → Float) (v : List Float) → Kept n w room v → Kept n w room (puts v (rhs_stage_at n s 0) f n)
+  first_kept f v h = past n w room v _ f n (omega arith) h
 
   first_stage_kept : (x : Scratch) → Now x → Then (first_stage g x)
   unfolding first_stage on_work with_stage_state
   first_stage_kept x h =
       let y = before n w room x.work _ _ n (omega arith) h in
-      provided_kept _ _ _ _ y (choose_either Then _ _ _ (solve_stage_kept 0 _ (past n w room _ _ _ n (omega arith) y)) (ask_stage_kept 0 _ y))
+      provided_kept _ _ _ _ y (choose_either Then _ _ _ (solve_stage_kept 0 _ (first_kept _ _ y)) (ask_stage_kept 0 _ y))
 
   factor_kept : (x : Scratch) → Now x → Then (factor g x)
   unfolding factor on_work on_marks with_matrix with_factors

@@ -1,16 +1,15 @@
 -- What an open attempt notes of its caches, as it goes on and where it stops. Assumes nothing.
-use Prim.Native.Nat.{ℕ, suc, ◌+◌, ◌*◌, ◌≤◌}
+use Prim.Native.Nat.{ℕ, suc, ◌*◌, ◌≤◌}
 use native.Mathlib.Omega.{arith}
 use mathlib.Core.Path.{◌≡◌, refl, sym, ap, ◌∙◌, subst}
 use mathlib.Core.Bool.{Bool, true, false, not, ◌&&◌, ◌||◌}
-use mathlib.Core.List.{List, []}
+use mathlib.Core.List.{List}
 use lib.ListN.{length}
-use lib.Ieee.{Float, eq, nan}
-use Rattle.float.specs.Operators.{𝟎}
+use lib.Ieee.{Float, nan}
 use Rattle.float.proofs.Cases.{never}
 use Rattle.std.specs.Prelude.{Option, None, Some, Result, Ok, Err}
 use Rattle.vector.specs.Lists.{el, all_finite}
-use Rattle.vector.specs.Parts.{part, puts}
+use Rattle.vector.specs.Parts.{part}
 use Rattle.vector.proofs.Parts.{part_stored}
 use Rattle.vector.proofs.Stores.{length-puts}
 use Rattle.stepping.specs.declared.Refusal.{Refusal}
@@ -20,9 +19,8 @@ use Rattle.stages.specs.Layout.{current_at, time_partial_at, probe_rhs_at, jacob
 use Rattle.differentiation.proofs.Lengths.{length_partial}
 use Rattle.attempts.specs.declared.Ask.{Ask}
 use Rattle.attempts.specs.declared.Ask.TheVariants.{Derivative, Jacobian, TimePartial, FirstProbe, SecondProbe, Column, Stage}
-use Rattle.attempts.specs.declared.Memo.{Memo}
-use Rattle.attempts.specs.Marks.{Marks, with_caches, with_derivative, with_differentiation, with_error_shown, with_probes, with_request_time, noting, counting}
-use Rattle.attempts.specs.Attempt.{Ending, Asks, Ends, Shows, Given, Scratch, scratch, Stopped, on_work, on_marks, halt, refuse, ask, ask_rhs, choose, provided, show, finish, ask_stage, open_stage, next_stage, solve_stage, first_stage, factor, partial_done, combine, ask_first_probe, ask_partial, jacobian_done, open_column, next_column, ask_jacobian, differentiate, begun, evaluate, start, written, resume, wanted}
+use Rattle.attempts.specs.Marks.{with_caches, with_derivative, with_differentiation, with_error_shown, with_probes, with_request_time, noting, counting}
+use Rattle.attempts.specs.Attempt.{Ending, Asks, Ends, Shows, Given, Scratch, Stopped, on_work, on_marks, halt, refuse, ask, ask_rhs, choose, provided, show, finish, ask_stage, open_stage, next_stage, solve_stage, first_stage, factor, partial_done, combine, ask_first_probe, ask_partial, jacobian_done, open_column, next_column, ask_jacobian, differentiate, evaluate, start, written, resume, wanted}
 use Rattle.lists.specs.Caching.{is_derivative, has_second, is_last_of_partial}
 use Rattle.lists.proofs.Tallied.{choose_either, provided_either}
 use Rattle.lists.proofs.Kept.{unchanged, partial_done_kept}

@@ -1,16 +1,16 @@
 -- What a call counts is told by its events. Assumes nothing.
 use Prim.Native.Nat.{ℕ, ◌*◌}
-use mathlib.Core.Path.{◌≡◌, refl, sym, ap, ◌∙◌}
+use mathlib.Core.Path.{◌≡◌, refl, sym, ◌∙◌}
 use mathlib.Core.Bool.{Bool, true, false, not, ◌&&◌, ◌||◌, cond}
 use mathlib.Core.List.{List}
 use lib.Ieee.{Float, eq}
-use Rattle.std.specs.Prelude.{Result, Ok, Err, is_ok, ⊤}
+use Rattle.std.specs.Prelude.{Result, Ok, Err}
 use Rattle.float.specs.Operators.{𝟎}
 use Rattle.float.proofs.Cases.{both, and_no, and_no_right}
 use Rattle.vector.specs.Lists.{all_finite}
 use Rattle.vector.specs.Parts.{part}
 use Rattle.stepping.specs.declared.Refusal.{Refusal}
-use Rattle.stepping.specs.Refusals.{Test, first_of, unless_refused}
+use Rattle.stepping.specs.Refusals.{Test, first_of}
 use Rattle.stepping.specs.Time.{endpoint_step}
 use Rattle.tableau.specs.Tableau.{c_of}
 use Rattle.tableau.specs.File.{tableau_of}
