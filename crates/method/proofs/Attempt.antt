@@ -12,8 +12,7 @@ use Rattle.float.specs.Operators.{◌⊕◌, ◌⊖◌, 𝟎}
 use Rattle.float.proofs.Cases.{by}
 use Rattle.vector.specs.Parts.{part}
 use Rattle.vector.proofs.Lists.{table-replicate}
-use Rattle.std.specs.Prelude.{Option, Some, None, Result, Ok, unwrap_or}
-use Rattle.stepping.specs.declared.Refusal.{Refusal}
+use Rattle.std.specs.Prelude.{Option, Some, None, Ok, unwrap_or}
 use Rattle.stepping.specs.Refusals.{Test, ◌when◌, first_of}
 use Rattle.stepping.proofs.Refusals.{is_answered}
 use Rattle.tableau.specs.Tableau.{present}
@@ -29,14 +28,14 @@ use Rattle.refusals.specs.Requests.{request_after, stage_after}
 use Rattle.refusals.specs.Answers.{Lent, Request, derivative, kind_of, asked, shown, candidate_of, error_shown, shown_part, stages_shown, rhs_stages_shown, jacobian_shown, time_partial_shown, view_of}
 use Rattle.refusals.specs.Answers as answers
 use Rattle.refusals.specs.Tests.{file_tests, attempt_tests, step_tests, decision_tests}
-use Rattle.rosenbrock.specs.Calls.{Out, refusal, guarded, given_by, scratch_by, progress_after, settle, opened, attempt_by, attempt_of, towards, attempt_to_of, supply_of, rejected, reject_of}
+use Rattle.rosenbrock.specs.Calls.{Out, refusal, guarded, given_by, scratch_by, progress_after, settle, opened, attempt_by, attempt_of, supply_of, rejected, reject_of}
 use Rattle.phases.specs.Phases.{opening}
 use Rattle.refusals.proofs.Fitting.{LentShape, fits_passed}
 use Rattle.std.specs.Bool.{then_some}
 use Rattle.method.specs.Step as method
 use Rattle.method.specs.Step.{Problem, Answers, Attempted, Evaluated, Differentiation, Caches, evaluated, derivative_at, differentiation_at, partial_at}
 use Rattle.method.specs.Schedule.{Item, evaluate, test, unless_cached, derivative_items, jacobian_items, partial_items, schedule, asks_for, ends_in}
-use Rattle.method.specs.Conversation.{answer_to, Conversation, last_answer, shown_error, step_view, rest_view, requests_of, answer_of, Sized, caches_in, attempted_with, attempted_by, AttemptIsStep, AttemptToIsAttempt}
+use Rattle.method.specs.Conversation.{answer_to, Conversation, last_answer, shown_error, step_view, rest_view, requests_of, answer_of, Sized, caches_in, attempted_with, attempted_by, AttemptIsStep}
 use Rattle.method.proofs.Conforms.{step_of, Long, Ready, Talks, Open, not_chosen}
 use Rattle.method.proofs.Partial.{matrix_on}
 use Rattle.method.proofs.Start.{evaluates, begun_candidate, begun_error, begun_left, begun_sums}
@@ -193,11 +192,6 @@ attempt_is_step fx file problem step host-J host-fₜ x m passes steps sized =
     rw moving
     (converses problem fx file p (x.time ⊕ step) (evaluated p (caches_in fx x m)) (schedule p (caches_in fx x m)) (attempt_of fx file step host-J host-fₜ x m)
     (moves fx file (own problem) step host-J host-fₜ x m passes steps (own_long problem fx.n sized) moving)))
-
-pub attempt_to_is_attempt : AttemptToIsAttempt
-unfolding attempt_to_of attempt_of towards
-attempt_to_is_attempt fx file endpoint proposal step host-J host-fₜ x m e =
-    ap (λ (q : Result Float Refusal). guarded (attempt_tests fx file x m) x m (towards q fx file host-J host-fₜ x m)) e
 
 -- ---- what it means for the requests
 

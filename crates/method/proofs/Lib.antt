@@ -11,3 +11,4 @@ mod Start
 mod Order
 pub mod Attempt
 mod Turns
+pub mod Standing

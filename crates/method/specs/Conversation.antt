@@ -7,7 +7,6 @@ use Rattle.float.specs.Operators.{◌⊕◌, ◌⊖◌, 𝟎}
 use Rattle.vector.specs.Parts.{part}
 use Rattle.stepping.specs.declared.Refusal.{Refusal}
 use Rattle.stepping.specs.Refusals.{first_of}
-use Rattle.stepping.specs.Time.{endpoint_step}
 use Rattle.tableau.specs.Tableau.{present, stages_of}
 use Rattle.tableau.specs.File.{tableau_of}
 use Rattle.stages.specs.Layout.{current_at, time_partial_at, jacobian_at}
@@ -15,7 +14,7 @@ use Rattle.refusals.specs.declared.Fixed.{Fixed}
 use Rattle.refusals.specs.declared.Progress.{Progress}
 use Rattle.refusals.specs.Answers.{Lent, Request, Kind, derivative, jacobian, time_partial, kind_of, View, Answer, refused, asked, shown}
 use Rattle.refusals.specs.Tests.{attempt_tests, step_tests}
-use Rattle.rosenbrock.specs.Calls.{Out, attempt_of, attempt_to_of, supply_of}
+use Rattle.rosenbrock.specs.Calls.{Out, attempt_of, supply_of}
 use Rattle.method.specs.Step.{Problem, Answers, Attempted, Caches, Evaluated, evaluated, stages, derivatives, candidate, error}
 use Rattle.method.specs.Schedule.{schedule, asks_for, ends_in}
 
@@ -129,9 +128,3 @@ AttemptIsStep = (fx : Fixed) (file : List ℕ) (problem : Problem) (step : Float
     → let p = attempted_by fx file problem step host_J host_fₜ x m in
     let c = caches_in fx x m in
     Conversation fx file problem (requests_of p (x.time ⊕ step) c) (attempt_of fx file step host_J host_fₜ x m) (answer_of p (x.time ⊕ step) c)
-
--- An attempt_to whose step endpoint_step gives is the attempt by that step, so what is claimed of attempts holds of it.
-abbrev pub AttemptToIsAttempt : Type 0
-AttemptToIsAttempt = (fx : Fixed) (file : List ℕ) (endpoint proposal step : Float) (host_J host_fₜ : Bool) (x : Progress) (m : Lent)
-    → endpoint_step x.time endpoint proposal ≡ Ok step
-    → attempt_to_of fx file endpoint proposal host_J host_fₜ x m ≡ attempt_of fx file step host_J host_fₜ x m

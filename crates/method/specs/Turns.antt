@@ -5,19 +5,19 @@ use Rattle.std.specs.Float.Ieee.{eq}
 use Rattle.float.specs.Operators.{◌⊕◌, 𝟎}
 use Rattle.vector.specs.Lists.{el, table}
 use Rattle.stepping.specs.declared.Refusal.{Refusal}
+use Rattle.stepping.specs.declared.Refusal.TheVariants.{HostFailure}
 use Rattle.stepping.specs.Refusals.{first_of}
+use Rattle.stepping.specs.Time.{endpoint_step}
 use Rattle.time_difference.specs.Policy.{probes}
 use Rattle.tableau.specs.Tableau.{c_of}
 use Rattle.attempts.specs.declared.Ask.{Ask}
 use Rattle.attempts.specs.declared.Ask.TheVariants.{Derivative, Jacobian, TimePartial, FirstProbe, SecondProbe, Column, Stage}
 use Rattle.attempts.specs.Attempt.{wanted}
-use Rattle.attempts.specs.Marks.{nothing_counted}
 use Rattle.refusals.specs.declared.Fixed.{Fixed}
 use Rattle.refusals.specs.declared.Progress.{Progress}
 use Rattle.refusals.specs.Answers.{Lent, Request, Kind, derivative, jacobian, time_partial, Answer, refused, asked, shown, told, done}
 use Rattle.refusals.specs.Tests.{file_tests, attempt_tests, step_tests}
-use Rattle.rosenbrock.specs.Calls.{Out, attempt_of, supply_of, failed, fail_of}
-use Rattle.rosenbrock.specs.Stepper.{Call, attempt, attempt_to, supply, fail, accept, reject, inject_derivative, reset, read, called}
+use Rattle.rosenbrock.specs.Stepper.{Call, attempt, attempt_to, supply, fail, accept, reject, inject_derivative, reset, read, System, Next, needed, trimmed, stepped}
 use Rattle.method.specs.Step.{Answers, Attempted, Caches}
 use Rattle.method.specs.Conversation.{requests_of, answer_of, caches_in, attempted_with}
 
@@ -104,34 +104,55 @@ refused_or_told (asked r) = false
 refused_or_told (shown view) = false
 refused_or_told done = false
 
--- a call that does nothing else: the record, the memory and the counters are as they were
-pub record Idle (fx : Fixed) (c : Call) (x : Progress) (m : Lent) : Type 0 where
+-- a call that does nothing: the record and the memory are as they were
+pub record Idle (c : Call) (y : System) : Type 0 where
   pub answer : Answer
   pub is_idle : refused_or_told answer ≡ true
-  pub leaves : called fx c x m ≡ record { progress = x; lent = m; counted = nothing_counted; answer = answer }
+  pub leaves : stepped c y ≡ record { system = y; answer = answer }
 
--- What the host does after a call that left `out`. It is asked for just rs, in this order, and supplies its answer to each; until it does, the request
--- stands. A failure that it reports closes the attempt, and nothing else changes. Any other call leaves all as it was. The last supply answers `last`.
-unfoldable pub Exchange : Fixed → List ℕ → List Turn → List Request → Out → Answer → Type 0
-Exchange fx file [] [] out last = out.answer ≡ last
-Exchange fx file [] (r ∷ rs) out last = out.answer ≡ asked r
-Exchange fx file (t ∷ ts) [] out last = out.answer ≡ last
-Exchange fx file (supplies v ∷ ts) (r ∷ rs) out last =
-    (out.answer ≡ asked r)
-    × (length v ≡ values_for fx.n r.kind → Exchange fx file ts rs (supply_of fx file v out.progress out.lent) last)
-Exchange fx file (fails ∷ ts) (r ∷ rs) out last = (out.answer ≡ asked r) × (fail_of fx out.progress out.lent ≡ failed out.progress out.lent)
-Exchange fx file (calls c ∷ ts) (r ∷ rs) out last =
-    (out.answer ≡ asked r)
-    × (beside fx r.kind c ≡ true → Idle fx c out.progress out.lent × Exchange fx file ts (r ∷ rs) out last)
+-- a report of failure: the attempt is closed, and all else is as it was
+unfoldable pub closed : System → Next
+closed y =
+    record {
+      system =
+          record {
+            stepper = record y.stepper { progress = record y.stepper.progress { request = 0; stage = 0 } };
+            lent = y.lent;
+          };
+      answer = refused HostFailure;
+    }
+
+-- What the host does after a call that left `next`. It is asked for just rs, in this order, and supplies its answer to each; until it does, the request
+-- stands. A failure that it reports closes the attempt. Any other call leaves all as it was. The last supply answers `last`.
+unfoldable pub Exchange : List ℕ → List Turn → List Request → Next → Answer → Type 0
+Exchange file [] [] next last = next.answer ≡ last
+Exchange file [] (r ∷ rs) next last = next.answer ≡ asked r
+Exchange file (t ∷ ts) [] next last = next.answer ≡ last
+Exchange file (supplies v ∷ ts) (r ∷ rs) next last =
+    (next.answer ≡ asked r)
+    × (length v ≡ values_for next.system.stepper.fixed.n r.kind → Exchange file ts rs (stepped (supply file v) next.system) last)
+Exchange file (fails ∷ ts) (r ∷ rs) next last = (next.answer ≡ asked r) × (stepped fail next.system ≡ closed next.system)
+Exchange file (calls c ∷ ts) (r ∷ rs) next last =
+    (next.answer ≡ asked r)
+    × (beside next.system.stepper.fixed r.kind c ≡ true → Idle c next.system × Exchange file ts (r ∷ rs) next last)
 
 -- ---- the claim
 
 -- After an attempt that opens, whatever the host does, it is asked for exactly the evaluations of the step that its answers make, in order, less what is
 -- cached, and is shown exactly that step, or the attempt ends in the refusal of the first test that holds.
 abbrev pub AttemptIsStepOfItsAnswers : Type 0
-AttemptIsStepOfItsAnswers = (fx : Fixed) (file : List ℕ) (step : Float) (host_J host_fₜ : Bool) (x : Progress) (m : Lent) (turns : List Turn)
-    → first_of (attempt_tests fx file x m) ≡ Ok tt
-    → first_of (step_tests step x) ≡ Ok tt
-    → let p = attempted_from fx file (answers_in turns) step host_J host_fₜ x m in
+AttemptIsStepOfItsAnswers = (file : List ℕ) (step : Float) (host_J host_fₜ : Bool) (y : System) (turns : List Turn)
+    → let fx = y.stepper.fixed in
+    let x = y.stepper.progress in
+    let m = trimmed (needed fx) y.lent in
+    let p = attempted_from fx file (answers_in turns) step host_J host_fₜ x m in
     let c = caches_in fx x m in
-    Exchange fx file turns (requests_of p (x.time ⊕ step) c) (attempt_of fx file step host_J host_fₜ x m) (answer_of p (x.time ⊕ step) c)
+    first_of (attempt_tests fx file x m) ≡ Ok tt
+    → first_of (step_tests step x) ≡ Ok tt
+    → Exchange file turns (requests_of p (x.time ⊕ step) c) (stepped (attempt file step host_J host_fₜ) y) (answer_of p (x.time ⊕ step) c)
+
+-- an attempt_to whose step endpoint_step gives is the attempt by that step
+abbrev pub AttemptToIsAttempt : Type 0
+AttemptToIsAttempt = (file : List ℕ) (endpoint proposal step : Float) (host_J host_fₜ : Bool) (y : System)
+    → endpoint_step y.stepper.progress.time endpoint proposal ≡ Ok step
+    → stepped (attempt_to file endpoint proposal host_J host_fₜ) y ≡ stepped (attempt file step host_J host_fₜ) y

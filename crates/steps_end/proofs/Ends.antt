@@ -34,7 +34,8 @@ use Rattle.decay.specs.Host.{decay, answered, if_shown, decided, one_step}
 use Rattle.forecast.specs.Pond.{standing, after_step, advanced_by, advanced}
 use Rattle.steps_end.specs.Claim.{is_end, StepEnds, NotOver}
 use Rattle.steps_end.proofs.Counted.{requests_few}
-use Rattle.steps_end.proofs.Talking.{Stands, after_stands, attempt_readable, settled, still, talk}
+use Rattle.method.proofs.Standing.{Stands, after_stands}
+use Rattle.steps_end.proofs.Talking.{attempt_readable, settled, still, talk}
 
 -- ---- the decision
 

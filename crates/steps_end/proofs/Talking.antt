@@ -1,7 +1,7 @@
 -- The host's answers to an attempt are those of a conversation in which f, J and fₜ answer every request. Assumes nothing.
 use Prim.Native.Nat.{ℕ, zero, suc, ◌≤◌}
 use native.Mathlib.Omega.{arith}
-use mathlib.Core.Path.{◌≡◌, refl, sym, ap, ◌∙◌}
+use mathlib.Core.Path.{◌≡◌, refl, ap, ◌∙◌}
 use mathlib.Core.Bool.{Bool, true, false}
 use mathlib.Core.List.{List, [], ◌∷◌, ◌++◌}
 use lib.ListN.{length}
@@ -21,44 +21,14 @@ use Rattle.refusals.specs.Tests.{fit_tests, request_test}
 use Rattle.rosenbrock.specs.Calls.{Out, refusal, progress_after, settle, opened, attempt_by, attempt_of, supply_of}
 use Rattle.rosenbrock.specs.Readers.{the_request, query_tests, reply, read_of}
 use Rattle.rosenbrock.specs.Readers as readers
-use Rattle.rosenbrock.specs.Stepper.{Call, supply, read, called, System, Next, needed, trimmed, result, stepped}
+use Rattle.rosenbrock.specs.Stepper.{supply, read, called, Next, stepped}
 use Rattle.refusals.proofs.Requests.{read_back, asked_open}
 use Rattle.rosenbrock.proofs.Guards.{guarded_either, guarded_passed}
-use Rattle.rosenbrock.proofs.Memory.{memory_after}
 use Rattle.refusals.proofs.Fitting.{Fits, fits_tests}
 use Rattle.lists.proofs.Steady.{called_fits}
 use Rattle.method.specs.Conversation.{answer_to, Conversation}
+use Rattle.method.proofs.Standing.{Stands, after_stands}
 use Rattle.decay.specs.Host.{decay, supplied_to, supplied_by, if_asked, answered_once, answered}
-
--- ---- a stepper with its memory, and what a call leaves
-
-pub record Stands (fx : Fixed) (r : Next) (o : Out) : Type 0 where
-  pub fixed : r.system.stepper.fixed ≡ fx
-  pub progress : r.system.stepper.progress ≡ o.progress
-  pub lent : trimmed (needed fx) r.system.lent ≡ o.lent
-  pub answer : r.answer ≡ o.answer
-
-module _ (c : Call) (y : System) (fx : Fixed) (x : Progress) (m : Lent) (f : y.stepper.fixed ≡ fx) (g : y.stepper.progress ≡ x) (h : trimmed (needed fx) y.lent ≡ m) where
-  result_is : result c y ≡ called fx c x m
-  unfolding result
-  result_is =
-      ap (λ (z : Fixed). called z c y.stepper.progress (trimmed (needed z) y.lent)) f
-      ∙ ap (λ (z : Progress). called fx c z (trimmed (needed fx) y.lent)) g
-      ∙ ap (called fx c x) h
-
-  memory_is : trimmed (needed fx) (stepped c y).system.lent ≡ (called fx c x m).lent
-  memory_is =
-      ap (λ (z : Fixed). trimmed (needed z) (stepped c y).system.lent) (sym f) ∙ memory_after c y ∙ ap (λ (o : Out). o.lent) result_is
-
-  pub after_stands : Stands fx (stepped c y) (called fx c x m)
-  unfolding stepped
-  after_stands =
-      record {
-        fixed = f;
-        progress = ap (λ (o : Out). o.progress) result_is;
-        lent = memory_is;
-        answer = ap (λ (o : Out). o.answer) result_is;
-      }
 
 -- ---- what is asked can be read
 
