@@ -39,7 +39,8 @@ use Rattle.rosenbrock.proofs.Guards.{guarded_either}
 use Rattle.rosenbrock.proofs.Memory.{memory_after}
 use Rattle.lists.specs.Run.{after}
 use Rattle.lists.specs.Opening.{memory, pass}
-use Rattle.lists.specs.Caching.{supplies, awaited, is_derivative, has_second, two_probes, is_last_of_partial, derivative_came, partial_came, Caches, none_cached, is_done, cached_after, cached, EveryCache}
+use Rattle.lists.specs.Accepting.{is_done}
+use Rattle.lists.specs.Caching.{supplies, awaited, is_derivative, has_second, two_probes, is_last_of_partial, derivative_came, partial_came, Caches, none_cached, cached_after, cached, EveryCache}
 use Rattle.lists.proofs.Fresh.{made_is}
 use Rattle.lists.proofs.Tallied.{provided_either}
 use Rattle.lists.proofs.Known.{guarded_known, passes}

@@ -32,7 +32,8 @@ use Rattle.rosenbrock.specs.Stepper.{Call, attempt, attempt_to, supply, fail, ac
 use Rattle.rosenbrock.proofs.Guards.{guarded_either}
 use Rattle.rosenbrock.proofs.Memory.{memory_after}
 use Rattle.lists.specs.Opening.{memory, pass, step_passes, opens}
-use Rattle.lists.specs.Caching.{supplies, awaited, is_derivative, two_probes, is_last_of_partial, derivative_came, partial_came, Caches, is_done}
+use Rattle.lists.specs.Accepting.{is_done}
+use Rattle.lists.specs.Caching.{supplies, awaited, is_derivative, two_probes, is_last_of_partial, derivative_came, partial_came, Caches}
 use Rattle.lists.specs.Counting.{asks_derivative, is_accept, is_reject, is_stage, is_singular, file_of, derivative_at_hand, differentiation_at_hand, matrix, reaches_matrix, solves_first_at_once, Events, events}
 use Rattle.lists.proofs.Known.{guarded_known, passes}
 use Rattle.lists.proofs.Caches.{AllFollows, two_of, last_same}

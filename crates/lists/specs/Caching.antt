@@ -13,10 +13,11 @@ use Rattle.attempts.specs.declared.Memo.{Memo}
 use Rattle.attempts.specs.declared.Ask.{Ask}
 use Rattle.attempts.specs.declared.Ask.TheVariants.{Derivative, TimePartial, FirstProbe, SecondProbe}
 use Rattle.refusals.specs.Requests.{ask_of}
-use Rattle.refusals.specs.Answers.{Lent, Answer, done}
+use Rattle.refusals.specs.Answers.{Lent}
 use Rattle.refusals.specs.Tests.{supply_tests}
 use Rattle.rosenbrock.specs.Stepper.{Call, supply, accept, inject_derivative, reset, System, stepped, make, made}
 use Rattle.lists.specs.Run.{after}
+use Rattle.lists.specs.Accepting.{is_done}
 use Rattle.lists.specs.Opening.{memory, pass}
 
 -- ---- what was asked is supplied
@@ -71,10 +72,6 @@ pub record Caches : Type 0 where
 
 abbrev pub none_cached : Caches
 none_cached = record { derivative = false; differentiation = false }
-
-unfoldable pub is_done : Answer → Bool
-is_done done = true
-is_done a = false
 
 -- An accept over a step other than 0 moves away from where they were taken, and a reset begins anew. A derivative that is injected stands alone.
 unfoldable pub cached_after : Caches → Call → System → Caches

@@ -18,8 +18,9 @@ use Rattle.statistics.specs.Counters.{no_statistics}
 use Rattle.statistics.specs.declared.StepStatistics.{StepStatistics}
 use Rattle.rosenbrock.specs.Stepper.{Call, attempt, attempt_to, supply, accept, reject, System, stepped, make, made}
 use Rattle.lists.specs.Run.{after}
+use Rattle.lists.specs.Accepting.{is_done}
 use Rattle.lists.specs.Opening.{memory, opens}
-use Rattle.lists.specs.Caching.{supplies, awaited, derivative_came, partial_came, Caches, none_cached, is_done, cached_after, cached}
+use Rattle.lists.specs.Caching.{supplies, awaited, derivative_came, partial_came, Caches, none_cached, cached_after, cached}
 
 -- ---- requests and decisions
 
