@@ -22,34 +22,34 @@ copied k state = cond (eqb k (length state)) (told (vector state)) (refused Dime
 unfoldable pub row : ℕ → List Float → ℕ → Answer
 row n rows i = cond (leb (i * n + n) (length rows)) (told (vector (part (i * n) n rows))) (refused Dimension)
 
--- Each reader of a step tells its entry of the view v, and time and state are those that the step starts from. Nothing is said of the derivative that may
--- be cached, and of the counters: a view has neither.
-pub record TellView (v : View) (r : Readings) : Type 0 where
-  pub of_time : r the_time ≡ told (number v.start)
-  pub of_state : r the_state ≡ told (vector v.previous)
-  pub of_copy : (k : ℕ) → r (the_copy k) ≡ copied k v.previous
-  pub of_start : r the_start ≡ told (number v.start)
-  pub of_end : r the_end ≡ told (number v.end)
-  pub of_candidate : r the_candidate ≡ told (vector v.candidate)
-  pub of_error : r the_error ≡ told (optional v.error)
-  pub of_stages : r the_stages ≡ told (vector v.stages)
-  pub of_stage : (i : ℕ) → r (the_stage i) ≡ row (length v.previous) v.stages i
-  pub of_rhs_stages : r the_rhs_stages ≡ told (vector v.rhs_stages)
-  pub of_rhs_stage : (i : ℕ) → r (the_rhs_stage i) ≡ row (length v.previous) v.rhs_stages i
-  pub of_jacobian : r the_jacobian ≡ told (vector v.jacobian)
-  pub of_time_partial : r the_time_partial ≡ told (vector v.time_partial)
+-- Each reader of a step tells its entry of the view v; time and state are those that the step starts from. The derivative that may be cached and the
+-- counters are no entries.
+pub record TellView (v : View) (reader : Readings) : Type 0 where
+  pub of_time : reader the_time ≡ told (number v.start)
+  pub of_state : reader the_state ≡ told (vector v.previous)
+  pub of_copy : (k : ℕ) → reader (the_copy k) ≡ copied k v.previous
+  pub of_start : reader the_start ≡ told (number v.start)
+  pub of_end : reader the_end ≡ told (number v.end)
+  pub of_candidate : reader the_candidate ≡ told (vector v.candidate)
+  pub of_error : reader the_error ≡ told (optional v.error)
+  pub of_stages : reader the_stages ≡ told (vector v.stages)
+  pub of_stage : (i : ℕ) → reader (the_stage i) ≡ row (length v.previous) v.stages i
+  pub of_rhs_stages : reader the_rhs_stages ≡ told (vector v.rhs_stages)
+  pub of_rhs_stage : (i : ℕ) → reader (the_rhs_stage i) ≡ row (length v.previous) v.rhs_stages i
+  pub of_jacobian : reader the_jacobian ≡ told (vector v.jacobian)
+  pub of_time_partial : reader the_time_partial ≡ told (vector v.time_partial)
   -- nothing is asked
-  pub of_request : r the_request ≡ refused NoRequest
+  pub of_request : reader the_request ≡ refused NoRequest
 
--- the request q alone is told
-pub record TellRequest (q : Request) (r : Readings) : Type 0 where
-  pub of_request : r the_request ≡ told (request q)
-  pub of_others : (k : Query) → k ≢ the_request → r k ≡ refused AttemptOpen
+-- the request r alone is told
+pub record TellRequest (r : Request) (reader : Readings) : Type 0 where
+  pub of_request : reader the_request ≡ told (request r)
+  pub of_others : (q : Query) → q ≢ the_request → reader q ≡ refused AttemptOpen
 
 -- after every call, whatever record and memory are
 pub record ReadersTell (c : Call) (y : System) : Type 0 where
   pub the_view : (v : View) → (stepped c y).answer ≡ shown v → TellView v (readings (stepped c y).system)
-  pub the_request_asked : (q : Request) → (stepped c y).answer ≡ asked q → TellRequest q (readings (stepped c y).system)
+  pub the_request_asked : (r : Request) → (stepped c y).answer ≡ asked r → TellRequest r (readings (stepped c y).system)
 
 abbrev pub ReadersTellTheAnswer : Type 0
 ReadersTellTheAnswer = (c : Call) (y : System) → ReadersTell c y
