@@ -30,6 +30,7 @@ use Rattle.refusals.specs.Answers as answers
 use Rattle.refusals.specs.Tests.{file_tests, attempt_tests, step_tests, decision_tests}
 use Rattle.rosenbrock.specs.Calls.{Out, refusal, guarded, given_by, scratch_by, progress_after, settle, opened, attempt_by, attempt_of, supply_of, rejected, reject_of}
 use Rattle.phases.specs.Phases.{opening}
+use Rattle.rosenbrock.specs.Stepper.{attempt, supply, called, System, Next, needed, trimmed, stepped}
 use Rattle.refusals.proofs.Fitting.{LentShape, fits_passed}
 use Rattle.std.specs.Bool.{then_some}
 use Rattle.method.specs.Step as method
@@ -38,6 +39,7 @@ use Rattle.method.specs.Schedule.{Item, evaluate, test, unless_cached, derivativ
 use Rattle.method.specs.Conversation.{answer_to, Conversation, last_answer, shown_error, step_view, rest_view, requests_of, answer_of, Sized, caches_in, attempted_with, attempted_by, AttemptIsStep}
 use Rattle.method.proofs.Conforms.{step_of, Long, Ready, Talks, Open, not_chosen}
 use Rattle.method.proofs.Partial.{matrix_on}
+use Rattle.method.proofs.Standing.{Stands, after_stands}
 use Rattle.method.proofs.Start.{evaluates, begun_candidate, begun_error, begun_left, begun_sums}
 
 -- ---- what the tests of an attempt establish
@@ -172,26 +174,35 @@ module _ (problem : Problem) where
   own_long n s (Column k) t z = s.of_f t z
   own_long n s (Stage i) t z = s.of_f t z
 
-  converses : (fx : Fixed) (file : List ℕ) (p : Attempted) (end : Float) (e : Evaluated) (items : List Item) (out : Out)
-      → Talks fx file own (shown (step_view p end e)) items out
-      → Conversation fx file problem (asks_for items) out (last_answer p end (ends_in items) e)
-  unfolding Talks Conversation asks_for ends_in last_answer
-  converses fx file p end e [] out h = h
-  converses fx file p end e (evaluate a t z ∷ items) out h =
-      (h.0.asks, converses fx file p end e items (supply_of fx file (own a t z) out.progress out.lent) h.1)
-  converses fx file p end e (test (k when true) ∷ items) out h = h
-  converses fx file p end e (test (k when false) ∷ items) out h = converses fx file p end e items out h
+  converses : (fx : Fixed) (file : List ℕ) (p : Attempted) (end : Float) (e : Evaluated) (items : List Item) (out : Out) (next : Next)
+      → Talks fx file own (shown (step_view p end e)) items out → Stands fx next out
+      → Conversation file problem (asks_for items) next (last_answer p end (ends_in items) e)
+  unfolding Talks Conversation asks_for ends_in last_answer called
+  converses fx file p end e [] out next h s = s.answer ∙ h
+  converses fx file p end e (evaluate a t z ∷ items) out next h s = (
+    s.answer ∙ h.0.asks,
+    converses fx file p end e items (supply_of fx file (own a t z) out.progress out.lent) (stepped (supply file (own a t z)) next.system) h.1
+        (after_stands (supply file (own a t z)) next.system fx out.progress out.lent s.fixed s.progress s.lent),
+  )
+  converses fx file p end e (test (k when true) ∷ items) out next h s = s.answer ∙ h
+  converses fx file p end e (test (k when false) ∷ items) out next h s = converses fx file p end e items out next h s
 
 pub attempt_is_step : AttemptIsStep
-unfolding attempted_by requests_of answer_of Conversation
-attempt_is_step fx file problem step host-J host-fₜ x m passes steps sized =
+unfolding attempted_by requests_of answer_of Conversation called
+attempt_is_step file problem step host-J host-fₜ y passes steps sized =
+    let fx = y.stepper.fixed in
+    let x = y.stepper.progress in
+    let m = trimmed (needed fx) y.lent in
     let p = attempted_by fx file problem step host-J host-fₜ x m in
+    let c = caches_in fx x m in
+    let s = after_stands (attempt file step host-J host-fₜ) y fx x m refl refl refl in
     by (eq p.h 𝟎)
-    (λ still. rw still (stays fx file (own problem) step host-J host-fₜ x m passes steps still))
+    (λ still. rw still (s.answer ∙ stays fx file (own problem) step host-J host-fₜ x m passes steps still))
     (λ moving.
     rw moving
-    (converses problem fx file p (x.time ⊕ step) (evaluated p (caches_in fx x m)) (schedule p (caches_in fx x m)) (attempt_of fx file step host-J host-fₜ x m)
-    (moves fx file (own problem) step host-J host-fₜ x m passes steps (own_long problem fx.n sized) moving)))
+    (converses problem fx file p (x.time ⊕ step) (evaluated p c) (schedule p c) (attempt_of fx file step host-J host-fₜ x m)
+    (stepped (attempt file step host-J host-fₜ) y)
+    (moves fx file (own problem) step host-J host-fₜ x m passes steps (own_long problem fx.n sized) moving) s))
 
 -- ---- what it means for the requests
 
@@ -218,17 +229,25 @@ module _ (p : Attempted) (end : Float) (c : Caches) (moves : eq p.h 𝟎 ≡ fal
       ∙ ap (λ (k : Option Differentiation). asks_for (unless_cached k (jacobian_items p e ++ partial_items p e) ++ matrix_on p e)) r
 
 -- an attempt without a cached derivative asks for it first
-pub first_request : (fx : Fixed) (file : List ℕ) (problem : Problem) (step : Float) (host-J host-fₜ : Bool) (x : Progress) (m : Lent)
-    → first_of (attempt_tests fx file x m) ≡ Ok tt → first_of (step_tests step x) ≡ Ok tt → Sized fx.n problem → eq ((x.time ⊕ step) ⊖ x.time) 𝟎 ≡ false
-    → x.memo.derivative_valid ≡ false → (attempt_of fx file step host-J host-fₜ x m).answer ≡ asked (record { kind = derivative; time = x.time; state = m.state })
+pub first_request : (file : List ℕ) (problem : Problem) (step : Float) (host-J host-fₜ : Bool) (y : System)
+    → let fx = y.stepper.fixed in
+    let x = y.stepper.progress in
+    let m = trimmed (needed fx) y.lent in
+    first_of (attempt_tests fx file x m) ≡ Ok tt → first_of (step_tests step x) ≡ Ok tt → Sized fx.n problem → eq ((x.time ⊕ step) ⊖ x.time) 𝟎 ≡ false
+    → x.memo.derivative_valid ≡ false
+    → (stepped (attempt file step host-J host-fₜ) y).answer ≡ asked (record { kind = derivative; time = x.time; state = m.state })
 unfolding Conversation attempted_by caches_in
-first_request fx file problem step host-J host-fₜ x m passes steps sized moves invalid =
+first_request file problem step host-J host-fₜ y passes steps sized moves invalid =
+    let fx = y.stepper.fixed in
+    let x = y.stepper.progress in
+    let m = trimmed (needed fx) y.lent in
     let p = attempted_by fx file problem step host-J host-fₜ x m in
     let c = caches_in fx x m in
+    let next = stepped (attempt file step host-J host-fₜ) y in
     let b = begin_with_derivative p (x.time ⊕ step) c moves (ap (λ (v : Bool). then_some v (part (current_at fx.n) fx.n m.work)) invalid) in
-    let conversation : Conversation fx file problem (record { kind = derivative; time = x.time; state = m.state } ∷ b.0) (attempt_of fx file step host-J host-fₜ x m) _ =
-    subst (λ (rs : List Request). Conversation fx file problem rs (attempt_of fx file step host-J host-fₜ x m) (answer_of p (x.time ⊕ step) c)) b.1
-    (attempt_is_step fx file problem step host-J host-fₜ x m passes steps sized) in
+    let conversation : Conversation file problem (record { kind = derivative; time = x.time; state = m.state } ∷ b.0) next _ =
+    subst (λ (rs : List Request). Conversation file problem rs next (answer_of p (x.time ⊕ step) c)) b.1
+    (attempt_is_step file problem step host-J host-fₜ y passes steps sized) in
     conversation.0
 
 -- a reject leaves what is cached: where all of it is, a further attempt asks for the derivatives at stages only

@@ -9,6 +9,6 @@ mod Columns
 mod Jacobian
 mod Start
 mod Order
+mod Standing
 pub mod Attempt
 mod Turns
-pub mod Standing

@@ -14,7 +14,7 @@ use Rattle.refusals.specs.declared.Fixed.{Fixed}
 use Rattle.refusals.specs.declared.Progress.{Progress}
 use Rattle.refusals.specs.Answers.{Lent, Request, Kind, derivative, jacobian, time_partial, kind_of, View, Answer, refused, asked, shown}
 use Rattle.refusals.specs.Tests.{attempt_tests, step_tests}
-use Rattle.rosenbrock.specs.Calls.{Out, attempt_of, supply_of}
+use Rattle.rosenbrock.specs.Stepper.{attempt, supply, System, Next, needed, trimmed, stepped}
 use Rattle.method.specs.Step.{Problem, Answers, Attempted, Caches, Evaluated, evaluated, stages, derivatives, candidate, error}
 use Rattle.method.specs.Schedule.{schedule, asks_for, ends_in}
 
@@ -26,12 +26,11 @@ answer_to p derivative t y = p.f t y
 answer_to p jacobian t y = p.J t y
 answer_to p time_partial t y = p.fₜ t y
 
--- After a call that left `out` the host is asked for just these evaluations, in this order, and supplies each of them; the last call answers `last`.
-unfoldable pub Conversation : Fixed → List ℕ → Problem → List Request → Out → Answer → Type 0
-Conversation fx file p [] out last = out.answer ≡ last
-Conversation fx file p (r ∷ rs) out last =
-    (out.answer ≡ asked r)
-    × Conversation fx file p rs (supply_of fx file (answer_to p r.kind r.time r.state) out.progress out.lent) last
+-- After a call that left `next` the host is asked for just these evaluations, in this order, and supplies each of them; the last call answers `last`.
+unfoldable pub Conversation : List ℕ → Problem → List Request → Next → Answer → Type 0
+Conversation file p [] next last = next.answer ≡ last
+Conversation file p (r ∷ rs) next last =
+    (next.answer ≡ asked r) × Conversation file p rs (stepped (supply file (answer_to p r.kind r.time r.state)) next.system) last
 
 -- ---- the step that is shown
 
@@ -121,10 +120,13 @@ attempted_by fx file problem step host_J host_fₜ x m = attempted_with fx file 
 -- An attempt that opens and whose requests are answered by f, J and fₜ asks for exactly the evaluations of its step, in order, less what is cached,
 -- and shows exactly that step, or ends in the refusal of the first test that holds.
 abbrev pub AttemptIsStep : Type 0
-AttemptIsStep = (fx : Fixed) (file : List ℕ) (problem : Problem) (step : Float) (host_J host_fₜ : Bool) (x : Progress) (m : Lent)
-    → first_of (attempt_tests fx file x m) ≡ Ok tt
+AttemptIsStep = (file : List ℕ) (problem : Problem) (step : Float) (host_J host_fₜ : Bool) (y : System)
+    → let fx = y.stepper.fixed in
+    let x = y.stepper.progress in
+    let m = trimmed (needed fx) y.lent in
+    let p = attempted_by fx file problem step host_J host_fₜ x m in
+    let c = caches_in fx x m in
+    first_of (attempt_tests fx file x m) ≡ Ok tt
     → first_of (step_tests step x) ≡ Ok tt
     → Sized fx.n problem
-    → let p = attempted_by fx file problem step host_J host_fₜ x m in
-    let c = caches_in fx x m in
-    Conversation fx file problem (requests_of p (x.time ⊕ step) c) (attempt_of fx file step host_J host_fₜ x m) (answer_of p (x.time ⊕ step) c)
+    → Conversation file problem (requests_of p (x.time ⊕ step) c) (stepped (attempt file step host_J host_fₜ) y) (answer_of p (x.time ⊕ step) c)

@@ -84,7 +84,7 @@ values_for n derivative = n
 values_for n jacobian = n * n
 values_for n time_partial = n
 
--- A call that neither answers a request of that kind nor reports a failure. So is a supply of another length, or with a file that is refused.
+-- a call that neither answers a request of that kind nor reports a failure; a supply of another length, or with a file that is refused, is one
 unfoldable pub beside : Fixed → Kind → Call → Bool
 beside fx kind (attempt file step host_jacobian host_time_partial) = true
 beside fx kind (attempt_to file endpoint proposal host_jacobian host_time_partial) = true

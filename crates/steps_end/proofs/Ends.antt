@@ -19,12 +19,10 @@ use Rattle.refusals.specs.declared.Progress.{Progress}
 use Rattle.rosenbrock.specs.declared.RosenbrockStepper.{RosenbrockStepper}
 use Rattle.refusals.specs.Answers.{Lent, Answer, refused, asked, shown, told, done}
 use Rattle.refusals.specs.Tests.{attempt_tests, step_tests, file_tests, open_test}
-use Rattle.rosenbrock.specs.Calls.{Out, refusal, opened, attempt_by, attempt_of, accepted, accept_of}
-use Rattle.phases.specs.Phases.{opening}
-use Rattle.rosenbrock.specs.Stepper.{attempt, accept, by_value, called, System, Next, needed, trimmed, result, stepped}
-use Rattle.rosenbrock.proofs.Guards.{guarded_either, guarded_passed}
+use Rattle.rosenbrock.specs.Calls.{Out, refusal, attempt_by, attempt_of, accepted, accept_of}
+use Rattle.rosenbrock.specs.Stepper.{Call, attempt, accept, by_value, called, System, Next, needed, trimmed, result, stepped}
+use Rattle.rosenbrock.proofs.Guards.{guarded_either}
 use Rattle.refusals.proofs.Fitting.{Fits, fits_passed}
-use Rattle.lists.proofs.Steady.{called_fits}
 use Rattle.method.specs.Step.{Attempted, Caches, evaluated}
 use Rattle.method.specs.Schedule.{schedule, ends_in}
 use Rattle.method.specs.Conversation.{Conversation, Sized, attempted_by, caches_in, requests_of, last_answer, rest_view}
@@ -34,8 +32,7 @@ use Rattle.decay.specs.Host.{decay, answered, if_shown, decided, one_step}
 use Rattle.forecast.specs.Pond.{standing, after_step, advanced_by, advanced}
 use Rattle.steps_end.specs.Claim.{is_end, StepEnds, NotOver}
 use Rattle.steps_end.proofs.Counted.{requests_few}
-use Rattle.method.proofs.Standing.{Stands, after_stands}
-use Rattle.steps_end.proofs.Talking.{attempt_readable, settled, still, talk}
+use Rattle.steps_end.proofs.Talking.{settled, still, talk}
 
 -- ---- the decision
 
@@ -68,15 +65,28 @@ sized_one : Sized 1 decay
 unfolding decay
 sized_one = record { of_f = λ t y. refl; of_J = λ t y. refl; of_fₜ = λ t y. refl }
 
-module _ (file : List ℕ) (fx : Fixed) (one : fx.n ≡ 1) (x : Progress) (m : Lent) where
-  abbrev Ending : Out → Type 0
-  Ending o = (r : Next) → Stands fx r o → is_end (decided (answered 11 file r)).answer ≡ true
+module _ (file : List ℕ) (y : System) (one : y.stepper.fixed.n ≡ 1) where
+  abbrev fx : Fixed
+  fx = y.stepper.fixed
 
-  refused_ends : (k : Refusal) → Ending (refusal x m k)
-  unfolding refusal settled
-  refused_ends k r s =
-      let h : settled r.answer ≡ true = ap settled s.answer in
-      ap (λ (z : Next). is_end (decided z).answer) (still fx file 11 r h) ∙ decided_ends r (refused k) s.answer refl
+  abbrev x : Progress
+  x = y.stepper.progress
+
+  abbrev m : Lent
+  m = trimmed (needed fx) y.lent
+
+  abbrev opening : Call
+  opening = attempt file 𝟏 true true
+
+  abbrev r : Next
+  r = stepped opening y
+
+  abbrev Ending : Type 0
+  Ending = is_end (decided (answered 11 file r)).answer ≡ true
+
+  refused_ends : (k : Refusal) → r.answer ≡ refused k → Ending
+  unfolding settled
+  refused_ends k e = ap (λ (z : Next). is_end (decided z).answer) (still file 11 r (ap settled e)) ∙ decided_ends r (refused k) e refl
 
   module _ (h : first_of (attempt_tests fx file x m) ≡ Ok tt) (k : first_of (step_tests 𝟏 x) ≡ Ok tt) where
     both : Fits fx x m × (first_of (file_tests fx.s file ++ (open_test x ∷ [])) ≡ Ok tt)
@@ -92,37 +102,29 @@ module _ (file : List ℕ) (fx : Fixed) (one : fx.n ≡ 1) (x : Progress) (m : L
         let e = eqb-true (stages_of (tableau_of file)) fx.s (held Dimension (eqb (stages_of (tableau_of file)) fx.s) rest t₂.1).0 in
         subst (λ (s : ℕ). s ≤ 8) (sym e) both.0.shape.s_to_8
 
-    goes_through : Ending (attempt_of fx file 𝟏 true true x m)
-    unfolding attempted_by called
-    goes_through r s =
+    goes_through : Ending
+    unfolding attempted_by
+    goes_through =
         let p = attempted_by fx file decay 𝟏 true true x m in
         let c = caches_in fx x m in
         let end = x.time ⊕ 𝟏 in
         let last = last_settled p end c in
         decided_ends (answered 11 file r) (conversation.answer_of p end c)
-        (talk fx file 11 (requests_of p end c) r (attempt_of fx file 𝟏 true true x m) (conversation.answer_of p end c) last s
-        (called_fits fx (attempt file 𝟏 true true) x m both.0) (attempt_readable fx file 𝟏 true true x m)
-        (attempt_is_step fx file decay 𝟏 true true x m h k (subst (λ (n : ℕ). Sized n decay) (sym one) sized_one))
+        (talk file 11 (requests_of p end c) opening y (conversation.answer_of p end c) last
+        (attempt_is_step file decay 𝟏 true true y h k (subst (λ (n : ℕ). Sized n decay) (sym one) sized_one))
         (requests_few p c refl refl few end))
         last
 
-    opens : attempt_of fx file 𝟏 true true x m ≡ opened fx file (opening 𝟏 true true x) m
-    unfolding attempt_of attempt_by
-    opens = guarded_passed _ x m _ h ∙ guarded_passed _ x m _ k
-
-  attempt_ends : Ending (attempt_of fx file 𝟏 true true x m)
-  unfolding attempt_of attempt_by
+  attempt_ends : Ending
+  unfolding stepped result called attempt_of attempt_by refusal
   attempt_ends =
-      guarded_either _ x m _ Ending refused_ends
-      (λ h. guarded_either _ x m _ Ending refused_ends (λ k. subst Ending (opens h k) (goes_through h k)))
+      guarded_either _ x m _ (λ (o : Out). r.answer ≡ o.answer → Ending) refused_ends
+      (λ h. guarded_either _ x m _ (λ (o : Out). r.answer ≡ o.answer → Ending) refused_ends (λ k _. goes_through h k))
+      refl
 
 pub step_ends : StepEnds
-unfolding one_step called
-step_ends file y one =
-    let fx = y.stepper.fixed in
-    let x = y.stepper.progress in
-    let m = trimmed (needed fx) y.lent in
-    attempt_ends file fx one x m (stepped (attempt file 𝟏 true true) y) (after_stands (attempt file 𝟏 true true) y fx x m refl refl refl)
+unfolding one_step
+step_ends = attempt_ends
 
 -- ---- so a forecast is over only after a refusal
 
