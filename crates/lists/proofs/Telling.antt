@@ -1,4 +1,4 @@
--- After a call that shows or asks, record and memory fit and stand where the answer was read from; so the readers tell it. Assumes nothing.
+-- After a call that shows, asks or is done, record and memory fit and stand where the answer was read from; so the readers tell it. Assumes nothing.
 use Rattle.std.proofs.lemmas.Grind.{common_steps}
 use Prim.Native.Nat.{ℕ, ◌+◌, ◌*◌, ◌<◌, ◌≤◌}
 use native.Mathlib.Omega.{arith}
@@ -32,13 +32,14 @@ use Rattle.refusals.specs.Answers.{Lent, Request, View, Answer, refused, asked, 
 use Rattle.refusals.specs.Tests.{fit_tests, open_test, candidate_test}
 use Rattle.refusals.proofs.Requests.{asked_open, read_back}
 use Rattle.refusals.proofs.Fitting.{Fits, fits_passed, fits_tests}
-use Rattle.phases.specs.Phases.{opening}
+use Rattle.refusals.proofs.Passed.{inject_passed}
+use Rattle.phases.specs.Phases.{opening, fresh}
 use Rattle.rosenbrock.specs.Calls.{Out, refusal, guarded, progress_after, settle, opened, attempt_by, attempt_of, towards, attempt_to_of, supply_of, failed, fail_of, accepted, accept_of, rejected, reject_of, injected, inject_of, restarted, reset_of}
 use Rattle.rosenbrock.specs.Readers.{Query, the_request, the_time, the_state, the_derivative, the_statistics, the_copy, the_start, the_end, the_candidate, the_error, the_stages, the_rhs_stages, the_jacobian, the_time_partial, the_stage, the_rhs_stage, no_stage, query_tests, reply, answered, read_of}
 use Rattle.rosenbrock.specs.Stepper.{Call, attempt, attempt_to, supply, fail, accept, reject, inject_derivative, reset, read, called, System, needed, trimmed, result, stepped}
 use Rattle.rosenbrock.proofs.Guards.{guarded_either, guarded_passed}
 use Rattle.rosenbrock.proofs.Memory.{memory_after}
-use Rattle.lists.specs.Telling.{copied, row, Readings, readings, TellView, TellRequest, ReadersTellTheAnswer}
+use Rattle.lists.specs.Telling.{copied, row, Readings, readings, TellView, TellRequest, TellNothing, ReadersTellTheAnswer}
 use Rattle.lists.proofs.Steady.{called_fits}
 
 -- ---- where the outcome of a call stands
@@ -53,21 +54,26 @@ record Waits (fx : Fixed) (r : Request) (x : Progress) (m : Lent) : Type 0 where
   open_now : is_open x.request ≡ true
   request : request_of fx x m (ask_of x.request x.stage) ≡ r
 
+-- nothing is asked, and no step is pending
+record Rests (x : Progress) : Type 0 where
+  not_open : is_open x.request ≡ false
+  not_pending : is_pending x.request ≡ false
+
 -- a call on what fits, and where its outcome stands
 unfoldable Stands : Fixed → Progress → Lent → Answer → Out → Type 0
 Stands fx x m (refused k) o = ⊤
 Stands fx x m (asked r) o = Fits fx x m × Waits fx r o.progress o.lent
 Stands fx x m (shown v) o = Fits fx x m × Pends fx v o.progress o.lent
 Stands fx x m (told a) o = ⊤
-Stands fx x m done o = ⊤
+Stands fx x m done o = Fits fx x m × Rests o.progress
 
 module _ (fx : Fixed) where
   module _ (x : Progress) (m : Lent) where
-    guarded_stands : (rest : List Test) (o : Out) → (Fits fx x m → Stands fx x m o.answer o)
+    guarded_stands : (rest : List Test) (o : Out) → (Fits fx x m → first_of (fit_tests fx x m ++ rest) ≡ Ok tt → Stands fx x m o.answer o)
         → let r = guarded (fit_tests fx x m ++ rest) x m o in Stands fx x m r.answer r
     unfolding Stands refusal
     guarded_stands rest o g =
-        guarded_either _ x m o (λ (q : Out). Stands fx x m q.answer q) (λ k. tt) (λ z. g (fits_passed fx x m rest z).0)
+        guarded_either _ x m o (λ (q : Out). Stands fx x m q.answer q) (λ k. tt) (λ z. g (fits_passed fx x m rest z).0 z)
 
     ended_stands : Fits fx x m → (x' : Progress) (marks : Marks) (e : Ending) (work : List Float) (pivots : List ℕ)
         → let o = settle fx x' m (stopped (record { marks = marks; ending = e }) work pivots) in Stands fx x m o.answer o
@@ -94,16 +100,17 @@ module _ (fx : Fixed) where
     towards_stands (Err k) file jacobian partial h = tt
 
   called_stands : (c : Call) (x : Progress) (m : Lent) → let o = called fx c x m in Stands fx x m o.answer o
-  unfolding called attempt_of attempt_to_of supply_of fail_of failed accept_of accepted reject_of rejected inject_of injected reset_of restarted read_of answered Stands
-  called_stands (attempt file step jacobian partial) x m = guarded_stands x m _ _ (attempt_by_stands x m file step jacobian partial)
-  called_stands (attempt_to file endpoint proposal jacobian partial) x m = guarded_stands x m _ _ (towards_stands x m _ file jacobian partial)
-  called_stands (supply file values) x m = guarded_stands x m _ _ (λ h. settle_stands x m h x _)
-  called_stands fail x m = guarded_stands x m _ _ (λ _. tt)
-  called_stands (accept f) x m = guarded_stands x m _ _ (λ _. tt)
-  called_stands (reject f) x m = guarded_stands x m _ _ (λ _. tt)
-  called_stands (inject_derivative derivative) x m = guarded_stands x m _ _ (λ _. tt)
-  called_stands (reset time state) x m = guarded_stands x m _ _ (λ _. tt)
-  called_stands (read q) x m = guarded_stands x m _ _ (λ _. tt)
+  unfolding called attempt_of attempt_to_of supply_of fail_of failed accept_of accepted reject_of rejected inject_of injected reset_of restarted read_of answered progress_after fresh is_open is_pending Stands
+  called_stands (attempt file step jacobian partial) x m = guarded_stands x m _ _ (λ h _. attempt_by_stands x m file step jacobian partial h)
+  called_stands (attempt_to file endpoint proposal jacobian partial) x m = guarded_stands x m _ _ (λ h _. towards_stands x m _ file jacobian partial h)
+  called_stands (supply file values) x m = guarded_stands x m _ _ (λ h _. settle_stands x m h x _)
+  called_stands fail x m = guarded_stands x m _ _ (λ _ _. tt)
+  called_stands (accept f) x m = guarded_stands x m _ _ (λ h _. (h, record { not_open = refl; not_pending = refl }))
+  called_stands (reject f) x m = guarded_stands x m _ _ (λ h _. (h, record { not_open = refl; not_pending = refl }))
+  called_stands (inject_derivative derivative) x m =
+      guarded_stands x m _ _ (λ h z. let t = inject_passed fx x m derivative z in (h, record { not_open = t.0; not_pending = t.1 }))
+  called_stands (reset time state) x m = guarded_stands x m _ _ (λ h _. (h, record { not_open = refl; not_pending = refl }))
+  called_stands (read q) x m = guarded_stands x m _ _ (λ _ _. tt)
 
 -- ---- the readers there
 
@@ -227,6 +234,28 @@ module _ (fx : Fixed) (x : Progress) (m : Lent) (h : Fits fx x m) where
           of_request = refuses the_request (here NoRequest [] (ap not not_open));
         }
 
+  module _ (r : Rests x) where
+    -- the tests of a step's readers refuse
+    no_step : (rest : List Test) → first_of (open_test x ∷ candidate_test x ∷ rest) ≡ Err NoCandidate
+    no_step rest = later AttemptOpen _ r.not_open (here NoCandidate rest (ap not r.not_pending))
+
+    nothing_told : TellNothing (λ q. (read_of q fx x m).answer)
+    unfolding query_tests
+    nothing_told =
+        record {
+          of_request = refuses the_request (here NoRequest [] (ap not r.not_open));
+          of_start = refuses the_start (no_step []);
+          of_end = refuses the_end (no_step []);
+          of_candidate = refuses the_candidate (no_step []);
+          of_error = refuses the_error (no_step []);
+          of_stages = refuses the_stages (no_step []);
+          of_stage = λ i. refuses (the_stage i) (no_step _);
+          of_rhs_stages = refuses the_rhs_stages (no_step []);
+          of_rhs_stage = λ i. refuses (the_rhs_stage i) (no_step _);
+          of_jacobian = refuses the_jacobian (no_step []);
+          of_time_partial = refuses the_time_partial (no_step []);
+        }
+
   module _ (o : is_open x.request ≡ true) where
     none_other : (k : Query) → k ≢ the_request → (read_of k fx x m).answer ≡ refused AttemptOpen
     unfolding query_tests
@@ -290,5 +319,11 @@ module _ (c : Call) (y : System) where
       let s : Entered × Waits fx q x m = stands (asked q) e in
       rw (there, sym s.1.request) (request_told fx x m (fits_then s.0) s.1.open_now)
 
+  tell_nothing : (stepped c y).answer ≡ done → TellNothing (readings (stepped c y).system)
+  unfolding Stands
+  tell_nothing e =
+      let s : Entered × Rests x = stands done e in
+      rw there (nothing_told fx x m (fits_then s.0) s.1)
+
 pub readers_tell : ReadersTellTheAnswer
-readers_tell c y = record { the_view = tell_view c y; the_request_asked = tell_request c y }
+readers_tell c y = record { the_view = tell_view c y; the_request_asked = tell_request c y; nothing = tell_nothing c y }

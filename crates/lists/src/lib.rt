@@ -72,7 +72,7 @@ pub fn every_refusal()
     ensures changes_nothing_or_closes { EveryRefusal }
 {}
 
-// What the readers tell after a call that shows a step view, or asks.
+// What the readers tell after a call that shows a step view, asks, or is done.
 pub fn readers_tell()
     ensures tell_the_answer { ReadersTellTheAnswer }
 {}
