@@ -1,5 +1,5 @@
--- EveryList has the theorems about lists, Counting and Caches those about counters and caches, Accepting, Refused and Telling those about every call, Lines
--- those about one; the others lead to them. Dependents may cite Steady too.
+-- EveryList has the theorems about lists, Counting, Caches and Finite those about counters, caches and finite numbers in them, Accepting, Refused and
+-- Telling those about every call, Lines those about one; the others lead to them. Dependents may cite Steady too.
 mod Alike
 mod Fresh
 mod Booked
@@ -12,6 +12,7 @@ pub mod Telling
 pub mod Steady
 mod Known
 mod Tallied
+pub mod Finite
 mod Kept
 mod Noted
 pub mod Caches

@@ -1,6 +1,6 @@
 -- What a call counts is told by its events. Assumes nothing.
 use Prim.Native.Nat.{ℕ, ◌*◌}
-use mathlib.Core.Path.{◌≡◌, refl, sym, ◌∙◌}
+use mathlib.Core.Path.{◌≡◌, refl, sym, ap, ◌∙◌}
 use mathlib.Core.Bool.{Bool, true, false, not, ◌&&◌, ◌||◌, cond}
 use mathlib.Core.List.{List}
 use lib.Ieee.{Float, eq}
@@ -54,13 +54,21 @@ answer_singular fx x m (Asks a) = refl
 answer_singular fx x m (Ends k) = refl
 answer_singular fx x m Shows = refl
 
+and_yes : (a : Bool) {b : Bool} → b ≡ true → (a && b) ≡ a
+and_yes true e = e
+and_yes false e = refl
+
 -- ---- the events of a call as what it counts
 
+-- the first stage takes the derivative at the accepted state
+abbrev first_at_once : List ℕ → Bool
+first_at_once file = eq (c_of (tableau_of file) 0) 𝟎
+
 module _ (k : Caches) (c : Call) (y : System) (step : Float) (work : List Float) where
-  -- by what is cached, whether what is supplied is the last of the time partial, the file, whether the call opens an attempt, whether it supplies what was
+  -- by what is cached, whether what is supplied is the last of the time partial, the file, whether the first stage is solved at once, whether the call opens an attempt, whether it supplies what was
   -- asked, and what it answers
-  abbrev tally : Bool → Bool → Bool → List ℕ → Bool → Bool → Bool → Bool → Bool → Bool → Counted
-  tally dv V last file op sup asks sing acc rej =
+  abbrev tally : Bool → Bool → Bool → List ℕ → Bool → Bool → Bool → Bool → Bool → Bool → Bool → Counted
+  tally dv V last file at_once op sup asks sing acc rej =
       let n = y.stepper.fixed.n in
       let D = cond op (not (eq step 𝟎) && dv) (sup && is_derivative (awaited y)) in
       let C = sup && (last && all_finite (part (time_partial_at n) n work)) in
@@ -72,12 +80,12 @@ module _ (k : Caches) (c : Call) (y : System) (step : Float) (work : List Float)
         rejected_steps = rej;
         jacobian_evaluations = D && not V;
         factorizations = R;
-        linear_solves = (sup && is_stage (awaited y)) || (R && (not sing && (eq (c_of (tableau_of file) 0) 𝟎 && all_finite y.lent.state)));
+        linear_solves = (sup && is_stage (awaited y)) || (R && (not sing && at_once));
       }
 
   abbrev of_call : Answer → Counted
   of_call a =
-      tally k.derivative k.differentiation (is_last_of_partial (two_probes y) (awaited y)) (file_of c) (opens c y) (supplies c y) (asks_derivative a) (is_singular a)
+      tally k.derivative k.differentiation (is_last_of_partial (two_probes y) (awaited y)) (file_of c) (first_at_once (file_of c)) (opens c y) (supplies c y) (asks_derivative a) (is_singular a)
       (is_accept c && is_done a)
       (is_reject c && is_done a)
 
@@ -95,16 +103,16 @@ module _ (k : Caches) (c : Call) (y : System) where
       let r = refusal y.stepper.progress (memory y) j in
       record {
         told =
-            λ i. tally k c y r.progress.step r.lent.work k.derivative k.differentiation last (file_of c) (sym p i) (sym q i) false (is_singular (refused j))
+            λ i. tally k c y r.progress.step r.lent.work k.derivative k.differentiation last (file_of c) (first_at_once (file_of c)) (sym p i) (sym q i) false (is_singular (refused j))
             (sym (and_no_right (is_accept c) refl) i) (sym (and_no_right (is_reject c) refl) i);
       }
 
   -- an attempt that opens
   opened_told : (file : List ℕ) (step : Float) (jacobian partial : Bool) → AllFollows k y → file_of c ≡ file → opens c y ≡ true → supplies c y ≡ false → is_accept c ≡ false
-      → is_reject c ≡ false → LentShape y.stepper.fixed (memory y)
+      → is_reject c ≡ false → LentShape y.stepper.fixed (memory y) → all_finite (memory y).state ≡ true
       → Told k c y (opened y.stepper.fixed file (opening step jacobian partial y.stepper.progress) (memory y))
   unfolding opened settle progress_after given_by scratch_by opening trimmed
-  opened_told file step jacobian partial t f p q u v h =
+  opened_told file step jacobian partial t f p q u v h finite =
       let fx = y.stepper.fixed in
       let m = memory y in
       let x = opening step jacobian partial y.stepper.progress in
@@ -113,14 +121,14 @@ module _ (k : Caches) (c : Call) (y : System) where
       record {
         told =
             (start_claim (given_by fx file x m) m.work h.of_work h.of_state x.memo m.pivots).counts.counted
-            ∙ (λ i. tally k c y o.progress.step o.lent.work (t.derivative i) (t.differentiation i) last (sym f i) (sym p i) (sym q i)
+            ∙ (λ i. tally k c y o.progress.step o.lent.work (t.derivative i) (t.differentiation i) last (sym f i) ((and_yes (first_at_once file) finite ∙ ap first_at_once (sym f)) i) (sym p i) (sym q i)
             (answer_asks fx o.progress o.lent r.stop.ending i) (answer_singular fx o.progress o.lent r.stop.ending i) (sym (and_no (is_done o.answer) u) i)
             (sym (and_no (is_done o.answer) v) i));
       }
 
 -- ---- each call
 
-module _ (k : Caches) (y : System) (t : AllFollows k y) where
+module _ (k : Caches) (y : System) (t : AllFollows k y) (finite : all_finite (memory y).state ≡ true) where
   abbrev fx : Fixed
   fx = y.stepper.fixed
 
@@ -143,7 +151,7 @@ module _ (k : Caches) (y : System) (t : AllFollows k y) where
         told =
             (resume_claim (given_by fx file x m) m.work h.of_work h.of_state x.memo m.pivots values a (supply_values fx x m file values e).0).counts.counted
             ∙ (λ i. tally k c y o.progress.step o.lent.work (t.derivative i) (t.differentiation i)
-            (last_same a x.memo.two_probes (two_of fx x) (t.probes (supply_passed fx x m file values e)) i) file false (sym (passes e) i && all_finite values)
+            (last_same a x.memo.two_probes (two_of fx x) (t.probes (supply_passed fx x m file values e)) i) file (and_yes (first_at_once file) finite i) false (sym (passes e) i && all_finite values)
             (answer_asks fx o.progress o.lent r.stop.ending i) (answer_singular fx o.progress o.lent r.stop.ending i) false false);
       }
 
@@ -152,7 +160,7 @@ module _ (k : Caches) (y : System) (t : AllFollows k y) where
   unfolding attempt_by step_passes
   attempt_by_told c file step jacobian partial b p s f q u v h =
       guarded_known (λ (o : Out). Told k c y o) (step_tests step x) x m _ (λ j e. refused_told k c y j (p ∙ and_no_right b e) q)
-      (λ e. opened_told k c y file step jacobian partial t f (p ∙ both s (passes e)) q u v h)
+      (λ e. opened_told k c y file step jacobian partial t f (p ∙ both s (passes e)) q u v h finite)
 
   towards_told : (c : Call) (r : Result Float Refusal) (file : List ℕ) (jacobian partial : Bool) (b : Bool) → opens c y ≡ (b && step_passes r x) → b ≡ true → file_of c ≡ file
       → supplies c y ≡ false → is_accept c ≡ false → is_reject c ≡ false → LentShape fx m → Told k c y (towards r fx file jacobian partial x m)
@@ -201,8 +209,8 @@ counted_of e =
       linear_solves = e.stage_solved;
     }
 
-pub call_told : (k : Caches) (c : Call) (y : System) → AllFollows k y → (result c y).counted ≡ counted_of (events k c y)
+pub call_told : (k : Caches) (c : Call) (y : System) → AllFollows k y → all_finite (memory y).state ≡ true → (result c y).counted ≡ counted_of (events k c y)
 unfolding stepped result events derivative_came partial_came derivative_at_hand differentiation_at_hand matrix reaches_matrix solves_first_at_once
-call_told k c y t =
+call_told k c y t finite =
     let r = result c y in
-    (called_told k y t c).told ∙ sym (λ i. of_call k c y r.progress.step (memory_after c y i).work r.answer)
+    (called_told k y t finite c).told ∙ sym (λ i. of_call k c y r.progress.step (memory_after c y i).work r.answer)

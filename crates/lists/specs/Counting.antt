@@ -77,11 +77,10 @@ module _ (k : Caches) (c : Call) (y : System) where
   unfoldable pub reaches_matrix : Bool
   reaches_matrix = differentiation_at_hand && all_finite matrix
 
-  -- The first stage takes the derivative at the accepted state where its c is a zero, and nothing is asked for it: it is solved where the matrix had
-  -- factors and the state is finite.
+  -- The first stage takes the derivative at the accepted state where its c is a zero, and nothing is asked for it: it is solved where the matrix has
+  -- factors.
   unfoldable pub solves_first_at_once : Bool
-  solves_first_at_once =
-      reaches_matrix && (not (is_singular (stepped c y).answer) && (eq (c_of (tableau_of (file_of c)) 0) 𝟎 && all_finite y.lent.state))
+  solves_first_at_once = reaches_matrix && (not (is_singular (stepped c y).answer) && eq (c_of (tableau_of (file_of c)) 0) 𝟎)
 
 -- ---- the events of a call
 

@@ -2,6 +2,7 @@ pub mod Run
 pub mod Book
 pub mod Claim
 pub mod Opening
+pub mod Finite
 pub mod Caching
 pub mod Counting
 pub mod Accepting

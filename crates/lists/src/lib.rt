@@ -9,6 +9,7 @@ ghost use Rattle.lists.specs.Accepting.{OthersLeaveIt, AcceptTakesTheCandidate, 
 ghost use Rattle.lists.specs.Caching.{EveryCache};
 ghost use Rattle.lists.specs.Claim.{EveryList, AlwaysFits, TailUntouched, ReadersChangeNothing};
 ghost use Rattle.lists.specs.Counting.{EveryCounter};
+ghost use Rattle.lists.specs.Finite.{AlwaysFinite};
 ghost use Rattle.lists.specs.Refused.{EveryRefusal};
 ghost use Rattle.lists.specs.Telling.{ReadersTellTheAnswer};
 
@@ -81,4 +82,9 @@ pub fn readers_tell()
 pub fn every_counter()
     ensures counts { EveryCounter }
     ensures caches { EveryCache }
+{}
+
+// What of the memory is finite after every list of calls.
+pub fn always_finite()
+    ensures state_and_candidate { AlwaysFinite }
 {}
