@@ -239,7 +239,8 @@ module _ (k : Caches) (y : System) (h : Follows y.stepper.fixed k y.stepper.prog
         derivative = n.derivative ∙ (λ i. h.derivative i || (all_finite values && is_derivative a));
         differentiation =
             n.differentiation
-            ∙ (λ i. h.differentiation i || (all_finite values && (last_same a x.memo.two_probes (two_of fx x) (h.probes open_now) i && all_finite (part (time_partial_at fx.n) fx.n r.work))));
+            ∙ (λ i. h.differentiation i
+            || (all_finite values && (last_same a x.memo.two_probes (two_of fx x) (h.probes open_now) i && all_finite (part (time_partial_at fx.n) fx.n r.work))));
         probes = n.probes;
       })
       (resume_nested g s h.nest room values a l (h.beyond open_now))
@@ -267,13 +268,16 @@ module _ (k : Caches) (y : System) (h : Follows y.stepper.fixed k y.stepper.prog
       subst (λ (l : Lent). Follows fx (supplied_caches (pass tests && all_finite values) l.work) (result c y).progress) (sym (memory_after c y))
       (guarded_known (λ (o : Out). Follows fx (supplied_caches (pass tests && all_finite values) o.lent.work) o.progress) tests x m _
       (λ r e. refused_caches m.work _ (and_no (all_finite values) e))
-      (λ e. subst (λ (b : Bool). Follows fx (supplied_caches (b && all_finite values) (supplied_out file values).lent.work) (supplied_out file values).progress) (sym (passes e)) (supplied_follows file values e)))
+      (λ e. let o = supplied_out file values in
+      subst (λ (b : Bool). Follows fx (supplied_caches (b && all_finite values) o.lent.work) o.progress) (sym (passes e)) (supplied_follows file values e)))
   step_follows fail = guarded_follows fx m k x h _ (failed x m) (closed_follows fx m k x h)
   step_follows (accept f) =
-      guarded_either _ x m (accepted fx x m) (λ (o : Out). Follows fx (cond (is_done o.answer && not (eq x.step 𝟎)) none_cached k) o.progress) (λ r. h) (λ _. accepted_follows fx m k x h)
+      guarded_either _ x m (accepted fx x m) (λ (o : Out). Follows fx (cond (is_done o.answer && not (eq x.step 𝟎)) none_cached k) o.progress) (λ r. h)
+      (λ _. accepted_follows fx m k x h)
   step_follows (reject f) = guarded_follows fx m k x h _ (rejected x m) (closed_follows fx m k x h)
   step_follows (inject_derivative derivative) =
-      guarded_either _ x m (injected fx derivative x m) (λ (o : Out). Follows fx (cond (is_done o.answer) (record { derivative = true; differentiation = false }) k) o.progress)
+      guarded_either _ x m (injected fx derivative x m)
+      (λ (o : Out). Follows fx (cond (is_done o.answer) (record { derivative = true; differentiation = false }) k) o.progress)
       (λ r. h)
       (λ _. record { derivative = refl; differentiation = refl; nest = λ _. refl; beyond = λ _ _. refl; probes = h.probes })
   step_follows (reset time state) =

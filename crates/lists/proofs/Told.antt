@@ -65,8 +65,8 @@ abbrev first_at_once : List ℕ → Bool
 first_at_once file = eq (c_of (tableau_of file) 0) 𝟎
 
 module _ (k : Caches) (c : Call) (y : System) (step : Float) (work : List Float) where
-  -- by what is cached, whether what is supplied is the last of the time partial, the file, whether the first stage is solved at once, whether the call opens an attempt, whether it supplies what was
-  -- asked, and what it answers
+  -- by what is cached, whether what is supplied is the last of the time partial, the file, whether the first stage is solved at once, whether the call
+  -- opens an attempt, whether it supplies what was asked, and what it answers
   abbrev tally : Bool → Bool → Bool → List ℕ → Bool → Bool → Bool → Bool → Bool → Bool → Bool → Counted
   tally dv V last file at_once op sup asks sing acc rej =
       let n = y.stepper.fixed.n in
@@ -85,7 +85,9 @@ module _ (k : Caches) (c : Call) (y : System) (step : Float) (work : List Float)
 
   abbrev of_call : Answer → Counted
   of_call a =
-      tally k.derivative k.differentiation (is_last_of_partial (two_probes y) (awaited y)) (file_of c) (first_at_once (file_of c)) (opens c y) (supplies c y) (asks_derivative a) (is_singular a)
+      tally k.derivative k.differentiation (is_last_of_partial (two_probes y) (awaited y)) (file_of c) (first_at_once (file_of c)) (opens c y) (supplies c y)
+      (asks_derivative a)
+      (is_singular a)
       (is_accept c && is_done a)
       (is_reject c && is_done a)
 
@@ -103,8 +105,8 @@ module _ (k : Caches) (c : Call) (y : System) where
       let r = refusal y.stepper.progress (memory y) j in
       record {
         told =
-            λ i. tally k c y r.progress.step r.lent.work k.derivative k.differentiation last (file_of c) (first_at_once (file_of c)) (sym p i) (sym q i) false (is_singular (refused j))
-            (sym (and_no_right (is_accept c) refl) i) (sym (and_no_right (is_reject c) refl) i);
+            λ i. tally k c y r.progress.step r.lent.work k.derivative k.differentiation last (file_of c) (first_at_once (file_of c)) (sym p i) (sym q i)
+            false (is_singular (refused j)) (sym (and_no_right (is_accept c) refl) i) (sym (and_no_right (is_reject c) refl) i);
       }
 
   -- an attempt that opens
@@ -121,7 +123,8 @@ module _ (k : Caches) (c : Call) (y : System) where
       record {
         told =
             (start_claim (given_by fx file x m) m.work h.of_work h.of_state x.memo m.pivots).counts.counted
-            ∙ (λ i. tally k c y o.progress.step o.lent.work (t.derivative i) (t.differentiation i) last (sym f i) ((and_yes (first_at_once file) finite ∙ ap first_at_once (sym f)) i) (sym p i) (sym q i)
+            ∙ (λ i. tally k c y o.progress.step o.lent.work (t.derivative i) (t.differentiation i) last (sym f i)
+            ((and_yes (first_at_once file) finite ∙ ap first_at_once (sym f)) i) (sym p i) (sym q i)
             (answer_asks fx o.progress o.lent r.stop.ending i) (answer_singular fx o.progress o.lent r.stop.ending i) (sym (and_no (is_done o.answer) u) i)
             (sym (and_no (is_done o.answer) v) i));
       }
@@ -151,7 +154,8 @@ module _ (k : Caches) (y : System) (t : AllFollows k y) (finite : all_finite (me
         told =
             (resume_claim (given_by fx file x m) m.work h.of_work h.of_state x.memo m.pivots values a (supply_values fx x m file values e).0).counts.counted
             ∙ (λ i. tally k c y o.progress.step o.lent.work (t.derivative i) (t.differentiation i)
-            (last_same a x.memo.two_probes (two_of fx x) (t.probes (supply_passed fx x m file values e)) i) file (and_yes (first_at_once file) finite i) false (sym (passes e) i && all_finite values)
+            (last_same a x.memo.two_probes (two_of fx x) (t.probes (supply_passed fx x m file values e)) i) file (and_yes (first_at_once file) finite i)
+            false (sym (passes e) i && all_finite values)
             (answer_asks fx o.progress o.lent r.stop.ending i) (answer_singular fx o.progress o.lent r.stop.ending i) false false);
       }
 
