@@ -1,9 +1,12 @@
 -- A buffer that is filled from the front. Assumes nothing.
 use Prim.Native.Nat.{ℕ, ◌+◌, ◌-◌, ◌≤◌}
-use mathlib.Core.Path.{◌≡◌, sym, ap, ◌∙◌}
+use mathlib.Core.Path.{◌≡◌, sym, ap, subst, ◌∙◌}
 use mathlib.Core.List.{List, ◌++◌}
 use lib.ListN.{length, take}
 use lib.Seq.{take-append-le, take-append-add, length-take-le}
+use Rattle.std.specs.Prelude.{Option, None, Some, IfSome}
+use Rattle.std.specs.Io.KnownBytes.{Consumes}
+use Rattle.forecast.specs.Failing.{ReadsFile}
 use borrow.Rule.Slice.PartMut.{put_mid, post_of}
 
 -- what a read puts into the rest of a buffer comes after what stands before it
@@ -16,3 +19,8 @@ front_grows from n buf part within fits =
     ap (λ (l : List ℕ). front ++ l) (sym (take-append-le n part (post_of from (length buf - from) buf) fits))
     ∙ sym (take-append-add front rest n)
     ∙ ap (λ (m : ℕ). take (m + n) (front ++ rest)) long
+
+-- what pond reads is the file
+pub reads_file : (known rest : Option (List ℕ)) (file : List ℕ) → Consumes known rest file → IfSome known (λ bytes. file ≡ take 761 bytes) → ReadsFile known rest
+reads_file None rest file h e = tt
+reads_file (Some bytes) rest file h e = subst (Consumes (Some bytes) rest) e h

@@ -1,1 +1,2 @@
+pub mod Failing
 pub mod Pond
