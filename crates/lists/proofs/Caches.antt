@@ -131,15 +131,15 @@ flags_kept : (same d v : Bool) (k : Caches) → d ≡ k.derivative → v ≡ k.d
 flags_kept true d v k e f h = (e, f, h)
 flags_kept false d v k e f h = (refl, refl, λ n. n)
 
-pub last_same : (a : Ask) (two two' : Bool) → (is_probe a ≡ true → two ≡ two') → is_last_of_partial two a ≡ is_last_of_partial two' a
+pub last_same : (a : Ask) (p q : Bool) → (is_probe a ≡ true → p ≡ q) → is_last_of_partial p a ≡ is_last_of_partial q a
 unfolding is_last_of_partial
-last_same Derivative two two' e = refl
-last_same Jacobian two two' e = refl
-last_same TimePartial two two' e = refl
-last_same FirstProbe two two' e = ap not (e refl)
-last_same SecondProbe two two' e = refl
-last_same (Column k) two two' e = refl
-last_same (Stage i) two two' e = refl
+last_same Derivative p q e = refl
+last_same Jacobian p q e = refl
+last_same TimePartial p q e = refl
+last_same FirstProbe p q e = ap not (e refl)
+last_same SecondProbe p q e = refl
+last_same (Column k) p q e = refl
+last_same (Stage i) p q e = refl
 
 module _ (fx : Fixed) (m : Lent) where
   ended_follows : (k : Caches) (x : Progress) (memo : Memo) (e : Ending) → memo.derivative_valid ≡ k.derivative → memo.differentiation_valid ≡ k.differentiation → Nest memo

@@ -1,4 +1,4 @@
--- What the helpers of `sqrt` ensure, on whole numbers. No contract of a public function cites these. Definitions only.
+-- What the functions below `sqrt` ensure, on whole numbers. No contract of a public function cites these. Definitions only.
 use Rattle.std.specs.Prelude.{◌≡◌, ℕ, ◌+◌, ◌*◌, ◌^◌, ◌≤◌, ◌<◌, cond, ltb}
 
 -- m * 2 ^ k is a * 4 ^ h / 2 ^ 52, and a has 53 or 54 digits
