@@ -3,6 +3,17 @@
 use crate::Failure;
 use crate::ffi::{self, ControllerConfig as Config};
 
+/// The calls as they are exported, on any record: hostile ones too.
+pub mod calls {
+    pub use crate::ffi::{
+        AdaptiveController, AssessAnswer, ControllerConfig, ControllerState, Settings, Settled,
+        wiqhano_controller_assess as assess, wiqhano_controller_new as new,
+        wiqhano_controller_next_step as next_step, wiqhano_controller_pi as pi,
+        wiqhano_controller_pid as pid, wiqhano_controller_proportional as proportional,
+        wiqhano_controller_reset as reset, wiqhano_controller_restore as restore,
+    };
+}
+
 /// What happens where a step at its minimum fails.
 #[derive(Clone, Copy, Debug, PartialEq, Eq)]
 pub enum MinimumStepPolicy {
@@ -149,6 +160,10 @@ impl AdaptiveController {
             0 => Ok(Self(settled.controller)),
             number => Err(ControllerError::told(number, f64::NAN)),
         }
+    }
+
+    pub fn config(&self) -> ControllerConfig {
+        self.0.config.into()
     }
 
     pub fn state(&self) -> ControllerState {

@@ -43,7 +43,7 @@ failures! {
     10 SegmentData: "the segment's data do not fit",
     11 OutsideTimeSpan: "the time lies outside the segment",
     12 TableauFile: "the bytes are no tableau file",
-    13 Pivot: "a pivot is out of range",
+    13 PivotRange: "a pivot is out of range",
     14 PendingCandidate: "a candidate is pending",
     15 NoCandidate: "no candidate is pending",
     16 MinimumStep: "the step is at its minimum",

@@ -59,6 +59,12 @@ impl List {
         list
     }
 
+    /// So many lines more, apart from answers to requests.
+    pub fn go_on(&mut self, lines: u64) {
+        self.left = lines;
+        self.rejected = false;
+    }
+
     /// Makings of which most are refused.
     fn refused_makings(&mut self, r: &mut Random, time: f64) {
         let mut tableau = tableau(r);

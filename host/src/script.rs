@@ -88,7 +88,9 @@ pub const COMMANDS: &[Command] = &[
     Command {
         name: "segment",
         line: segment,
-        classes: &["ok", "err 1", "err 10", "err 11"],
+        classes: &[
+            "ok", "backward", "infinite", "NaN", "err 1", "err 10", "err 11",
+        ],
     },
     Command {
         name: "ctl new",
@@ -159,6 +161,7 @@ pub fn class(line: &str, answer: &str) -> String {
         ["ok", "accepted=1", "forced=1", ..] => return "forced".into(),
         ["ok", "accepted=1", ..] => return "accepted".into(),
         ["ok", "accepted=0", ..] => return "rejected".into(),
+        ["ok", x] if line.starts_with("segment") => return interpolated(line, x).into(),
         ["ok", x, ..] if x.starts_with('[') || x.starts_with("errs=") => return "ok".into(),
         ["ok", _, "-"] => "one",
         ["ok", _, _] => "two",
@@ -169,6 +172,23 @@ pub fn class(line: &str, answer: &str) -> String {
         (false, _) => format!("ok {kind}"),
         (true, false) => format!("two {kind}"),
         (true, true) => format!("one {kind}"),
+    }
+}
+
+/// Whether a component is NaN, or infinite, or else the segment goes backward.
+fn interpolated(line: &str, output: &str) -> &'static str {
+    let double = |word: &str| u64::from_str_radix(word, 16).map(f64::from_bits);
+    let mut output = output.trim_matches(['[', ']']).split(',').flat_map(double);
+    let mut times = line.split(' ').skip(1).take(2).flat_map(double);
+    let (start, end) = (times.next(), times.next());
+    if output.clone().any(f64::is_nan) {
+        "NaN"
+    } else if output.any(f64::is_infinite) {
+        "infinite"
+    } else if end < start {
+        "backward"
+    } else {
+        "ok"
     }
 }
 
@@ -548,6 +568,11 @@ fn first_step(r: &mut Random) -> String {
     )
 }
 
+/// Evenly spread over the whole range, so nearly always huge.
+fn wide(r: &mut Random) -> f64 {
+    f64::MAX * (r.unit() * 2.0 - 1.0)
+}
+
 fn segment(r: &mut Random) -> String {
     let n = dimension(r);
     let mut order = 2 + r.below(3) as usize;
@@ -563,6 +588,19 @@ fn segment(r: &mut Random) -> String {
         finites(r, n * order),
         vec![7.0; n],
     ];
+    if r.chance(20) {
+        states[2] = (0..n * order).map(|_| wide(r)).collect();
+    }
+    // both times over the whole range: their distance may overflow
+    let huge = r.chance(25);
+    if huge {
+        (start, end) = (wide(r), wide(r));
+        if r.chance(60) {
+            // from one end of the range to the other
+            let far = |r: &mut Random| f64::MAX * (1.0 - r.unit() / 2.0);
+            (start, end) = (far(r).copysign(start), far(r).copysign(-start));
+        }
+    }
     let time = match r.below(8) {
         0 => start,
         1 => end,
@@ -570,6 +608,10 @@ fn segment(r: &mut Random) -> String {
         3 => {
             let x = r.pick(&[start, end]);
             r.near(x)
+        }
+        _ if huge => {
+            let part = r.unit();
+            start * (1.0 - part) + end * part
         }
         _ => start + (end - start) * r.unit(),
     };

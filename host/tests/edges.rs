@@ -1,5 +1,5 @@
-//! The scope paper's cases without a star, and what it lists as believed and false: run on the
-//! library, and beside the original (WIQHANO_ORACLE names its program) where that has the same rule.
+//! Cases at the edge beside those of the table of starred cases, and what docs/BELIEFS.md says of what
+//! new people believe: run on the library, and beside the original (WIQHANO_ORACLE names its program) where that has the same rule.
 mod oracle;
 
 use wiqhano::linear::{factorize, solve};

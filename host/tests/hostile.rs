@@ -1,5 +1,5 @@
 //! The stepper's calls on records, memory and files of every kind, fit or not, beside a second
-//! reading of the scope paper's refusals: each call is refused with the first number that holds and
+//! reading of docs/RULES.md: each call is refused with the number of the first test that holds and
 //! changes nothing, or goes on and changes only what it may; and the readers on the same. WIQHANO_SEED
 //! sets the seed, WIQHANO_COUNT the number of calls.
 mod readers;
@@ -782,7 +782,7 @@ const READERS: &[(&str, &[u32])] = &[
     ("rhs_stage", &[0, 1, 15, 18]),
 ];
 
-/// A reader tells a number of the scope paper, or what stands at a place inside the memory that is
+/// A reader tells a refusal's number, or what stands at a place inside the memory that is
 /// lent, and changes nothing.
 #[test]
 fn random_readings() {

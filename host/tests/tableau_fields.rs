@@ -1,5 +1,5 @@
 //! The readers of the tableau file and the sameness of two files, beside a second reading of the
-//! scope paper's section 'Tableau file'. WIQHANO_SEED sets the seed, WIQHANO_COUNT the number of
+//! tableau file's section in docs/RULES.md. WIQHANO_SEED sets the seed, WIQHANO_COUNT the number of
 //! files.
 use std::collections::BTreeMap;
 use wiqhano::random::{self, Random};

@@ -1,5 +1,5 @@
-//! The check of the tableau file beside a second reading of the scope paper's section 'Tableau
-//! file', on files that are right and files that are damaged. WIQHANO_SEED sets the seed,
+//! The check of the tableau file beside a second reading of the tableau file's section in
+//! docs/RULES.md, on files that are right and files that are damaged. WIQHANO_SEED sets the seed,
 //! WIQHANO_COUNT the number of files.
 use std::collections::BTreeMap;
 use wiqhano::random::{self, Random};

@@ -1,5 +1,5 @@
 //! A second reading of the readers: what each tells of a record and the memory lent with it. The
-//! refusals are those of the scope paper in their order, and the places are those that the wrapper
+//! refusals are those of docs/RULES.md in their order, and the places are those that the wrapper
 //! reads by itself.
 #![allow(dead_code)]
 use wiqhano::Failure;
