@@ -1,1 +1,1 @@
-mod Hosting
+pub mod Hosting

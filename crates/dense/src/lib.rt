@@ -127,11 +127,11 @@ impl<'a> Segment<'a> {
         ensures { output.new ≡ table (component (shown self.now) time) (size (shown self.now)) }
     {
         if time == self.start_time {
-            output.copy_from_slice(self.start_state);
+            vector::copy(output, self.start_state);
             return;
         }
         if time == self.end_time {
-            output.copy_from_slice(self.end_state);
+            vector::copy(output, self.end_state);
             return;
         }
         let theta = (time - self.start_time) / (self.end_time - self.start_time);

@@ -10,3 +10,5 @@ pub mod Edges
 pub mod Negatives
 pub mod Quotients
 pub mod Positive
+pub mod Halves
+pub mod Finite

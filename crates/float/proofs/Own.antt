@@ -1,13 +1,13 @@
--- A value that fits is what its own fraction rounds to: so an operation whose exact result fits gives that result. Assumes nothing.
+-- A value that fits is what its own fraction rounds to: so an operation whose exact result fits gives that result. `x * 1.0` is x. Assumes nothing.
 use mathlib.Core.Path.{◌≡◌, refl, sym, ap, ◌∙◌, subst}
 use Prim.Native.Nat.{ℕ, zero, suc, ◌+◌, ◌-◌, ◌*◌, ◌%◌, ◌^◌, ◌≤◌, ◌<◌}
 use native.Mathlib.Nat.{le_of_eq, lt_irrefl, lt_of_lt_of_le, lt_of_le_of_lt, lt_of_not-le, le_of_suc-le-suc, zero-lt-suc, suc-ne-zero, sub-add_cancel, add-suc, zero-mul, mul-one, mul_comm, mul_assoc, mul_left_comm, mul_right_comm, mul-pos, mul-lt-mul_of_pos_right, lt_of_mul-lt-mul_right, eq_of_mul-eq-mul_right, pow-suc, pow-succ'}
 use native.Mathlib.Omega.{arith}
-use mathlib.Core.Bool.{Bool, ◌&&◌}
+use mathlib.Core.Bool.{Bool, true, false, ◌&&◌}
 use lib.IntN.{ℤ, pos, negsuc}
 use lib.Dec.{T, leb, ltb, eqb, leb→le, ltb→lt, eqb→eq}
 use lib.Pow.{pow-add, pow_pos, pow-lt}
-use lib.Ieee.{Float, nan, inf, fin, binary64, up, down, round, fits}
+use lib.Ieee.{Float, nan, inf, fin, binary64, up, down, round, fits, mul, of_bits, unlike}
 use lib.Ieee.Fits.{and_l, and_r, down_pos, up_pos, round-fits}
 use lib.Ieee.Exact.{HasValue, round_exact}
 use Rattle.float.proofs.Laws.{none, round_zero, zero_exp}
@@ -106,3 +106,16 @@ round_own s (suc m) e a c f C v =
     let r : HasValue (round binary64 s a c) s a c =
     round_exact binary64 s a c (suc m) p.0 C F.short (under_at (2 ^ 1074) (2 ^ 1024) (suc m * up e) w (down e) (pow_pos 1074) p.1 F.under) (exact_at (2 ^ 1074) (suc m * up e) w (down e) a c (down_pos e) p.1 v) in
     value_one (round binary64 s a c) s m e a c (round-fits binary64 s a c) f C r (refl, v)
+
+-- ---- x * 1.0
+unlike_plus : (s : Bool) → unlike s false ≡ s
+unlike_plus true = refl
+unlike_plus false = refl
+
+pub mul_one_is : (x : Float) → T (fits binary64 x) → mul binary64 x (of_bits binary64 0x3ff0_0000_0000_0000) ≡ x
+unfolding mul of_bits
+mul_one_is nan f = refl
+mul_one_is (inf s) f = ap inf (unlike_plus s)
+mul_one_is (fin s m e) f =
+    ap (λ (t : Bool). round binary64 t (m * up e * (1 * 2 ^ 0)) (down e * 1)) (unlike_plus s)
+    ∙ round_own s m e (m * up e * 1) (down e * 1) f (mul-pos (down_pos e) (zero-lt-suc 0)) (sym (mul_assoc (m * up e) (down e) 1) ∙ mul_right_comm (m * up e) (down e) 1)

@@ -1,7 +1,9 @@
-// pond with a reader and a writer that move few bytes a call, and that fail after some.
-use crate::pond;
+// pond with a reader and a writer that move few bytes a call, that fail after some, and with a writer
+// that is interrupted.
+use crate::{begin, pond, put_line};
 use std::io;
 use std::io::{ErrorKind, Read, Write};
+use stepping::Refusal;
 
 // crates/pond/stdin: one stage, gamma = d = b = 1 and c = 0.
 const FILE: [u8; 80] = [
@@ -62,6 +64,27 @@ impl Write for Sink {
     }
 }
 
+// Answers Interrupted before each write that it passes on.
+#[derive(Drop)]
+struct Interrupting {
+    sink: Sink,
+    interrupted: bool,
+}
+
+impl Write for Interrupting {
+    fn write(&mut self, buf: &[u8]) -> io::Result<usize> {
+        self.interrupted = !self.interrupted;
+        if self.interrupted {
+            return Err(ErrorKind::Interrupted.into());
+        }
+        self.sink.write(buf)
+    }
+
+    fn flush(&mut self) -> io::Result<()> {
+        Ok(())
+    }
+}
+
 #[test]
 fn few_bytes_a_call(rt: HostRuntime) {
     for most in [1, 2, 3, 15, 16, 17, 1000] {
@@ -79,6 +102,29 @@ fn few_bytes_a_call(rt: HostRuntime) {
         let mut work = [0.0; 2816];
         assert!(rt; pond(&mut input, &mut output, &mut work).is_ok());
         assert_eq!(rt; output.taken.as_slice(), TEXT, "{most} a call");
+    }
+}
+
+#[test]
+fn writes_are_interrupted(rt: HostRuntime) {
+    for most in [1, 3, 1000] {
+        let mut input = Source {
+            rest: &FILE,
+            most,
+            good: usize::MAX,
+        };
+        let mut output = Interrupting {
+            sink: Sink {
+                taken: Vec::new(rt.alloc()),
+                most,
+                good: usize::MAX,
+                fails: true,
+            },
+            interrupted: false,
+        };
+        let mut work = [0.0; 2816];
+        assert!(rt; pond(&mut input, &mut output, &mut work).is_ok());
+        assert_eq!(rt; output.sink.taken.as_slice(), TEXT, "{most} a call");
     }
 }
 
@@ -166,4 +212,23 @@ fn a_long_input(rt: HostRuntime) {
             "{most} a call"
         );
     }
+}
+
+// The bytes beside a line stay.
+#[test]
+fn a_line_is_put(rt: HostRuntime) {
+    let mut work = [0.0; 2816];
+    let start = begin(&FILE, &[1.0], &mut work, &mut [0]);
+    let mut out = [b'.'; 64];
+    assert_eq!(rt; put_line(0, start, &[1.0], &mut out), 36);
+    assert_eq!(rt;
+        out.get(..37),
+        Some(&b"0 0000000000000000 3ff0000000000000\n."[..])
+    );
+    let refused = Some(Err(Refusal::Dimension));
+    let mut out = [b'.'; 64];
+    assert_eq!(rt; put_line(1, refused, &[], &mut out), 10);
+    assert_eq!(rt; out.get(..11), Some(&b"refused 1\n."[..]));
+    assert_eq!(rt; put_line(2, None, &[], &mut out), 0);
+    assert_eq!(rt; out.get(..11), Some(&b"refused 1\n."[..]));
 }

@@ -148,6 +148,27 @@ fn proposed(d0: f64, d1: f64, direction: f64, maximum: f64) -> Result<f64, Refus
     Ok(direction * float::min(h, maximum))
 }
 
+// The step from the norms of the state and its derivative. Where the first is below 1e-5 the second has no say:
+// it is not worked out.
+#[inline(always)]
+#[tactic(auto, unfolding(crate::specs::First::proposed, crate::specs::First::unbounded, crate::specs::First::guess, crate::specs::First::slight))]
+fn proposed_by_norms(
+    state: &[f64],
+    derivative: &[f64],
+    scales: &[f64],
+    direction: f64,
+    maximum: f64,
+) -> Result<f64, Refusal>
+    requires { (length state.now ≡ length scales.now) × (length derivative.now ≡ length scales.now) × (length scales.now ≤ 32) }
+    ensures { result ≡ proposed (rms state.now scales.now) (rms derivative.now scales.now) direction maximum }
+{
+    let d0 = rms(state, scales);
+    if d0 < 1e-5 {
+        return proposed(d0, d0, direction, maximum);
+    }
+    proposed(d0, rms(derivative, scales), direction, maximum)
+}
+
 // The first step. Nothing tests the guess: wherever a step is answered, it is finite and above 0.
 #[tactic(auto, using(stepping::proofs::Dimension::sizes), unfolding(crate::specs::First::initial_step, crate::specs::First::input_tests, stepping::specs::Refusals::first_of, stepping::specs::Refusals::unless_refused))]
 pub fn initial_step(
@@ -171,10 +192,5 @@ pub fn initial_step(
     if undirected(scales, direction, maximum) {
         return Err(Refusal::Direction);
     }
-    proposed(
-        rms(state, scales),
-        rms(derivative, scales),
-        direction,
-        maximum,
-    )
+    proposed_by_norms(state, derivative, scales, direction, maximum)
 }

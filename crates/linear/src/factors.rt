@@ -5,16 +5,18 @@ ghost use Rattle.vector.specs.Lists.{el};
 ghost use Rattle.linear.specs.Substitution.{lower, upper, interchanges, less_products, forward_substitution, back_substitution, solution};
 
 // Interchanges row k with row pivots[k], for each k in turn.
-fn interchange_all(pivots: &[usize], x: &mut [f64])
-    requires { (length pivots.now ≡ length x.old) × ((k : ℕ) → k < length x.old → get_or pivots.now k 0 < length x.old) }
-    ensures { x.new ≡ interchanges pivots.now x.old (length x.old) }
+#[inline(always)]
+fn interchange_all(pivots: &[usize], x: &mut [f64], n: usize)
+    requires { (length pivots.now ≡ n) × (length x.old ≡ n) × ((k : ℕ) → k < n → get_or pivots.now k 0 < n) }
+    ensures { x.new ≡ interchanges pivots.now x.old n }
 {
-    for row in 0..x.len() {
+    for row in 0..n {
         x.swap(row, pivots[row]);
     }
 }
 
 // b less the products of the factors from `at + first` on with x from `first` on, as far as `last`.
+#[inline(always)]
 #[tactic(auto, using(crate::proofs::Substitutions::less_none, crate::proofs::Substitutions::less_more))]
 fn less_products(factors: &[f64], x: &[f64], at: usize, first: usize, last: usize, b: f64) -> f64
     requires { (first ≤ last) × (at + last ≤ length factors.now) × (last ≤ length x.now) }
@@ -39,6 +41,7 @@ pub struct Factors<'a> {
 
 impl Factors<'_> {
     // Solves L y = b in place, row by row.
+    #[inline(always)]
     fn forward_substitution(&self, x: &mut [f64])
         requires { length x.old ≡ self.now.n }
         ensures { x.new ≡ forward_substitution (lower self.now.n self.now.entries.now) (el x.old) self.now.n }
@@ -50,6 +53,7 @@ impl Factors<'_> {
     }
 
     // Solves U x = y in place, from the last row up.
+    #[inline(always)]
     fn back_substitution(&self, x: &mut [f64])
         requires { length x.old ≡ self.now.n }
         ensures { x.new ≡ back_substitution self.now.n (upper self.now.n self.now.entries.now) (el x.old) self.now.n }
@@ -62,6 +66,7 @@ impl Factors<'_> {
     }
 
     // Solves the system in place.
+    #[inline(always)]
     #[tactic(auto, using(crate::proofs::Answers::solution_is))]
     pub fn solve(&self, pivots: &[usize], rhs: &mut [f64])
         requires rhs { length rhs.old ≡ self.now.n }
@@ -69,7 +74,7 @@ impl Factors<'_> {
         requires within { (k : ℕ) → k < self.now.n → get_or pivots.now k 0 < self.now.n }
         ensures { rhs.new ≡ solution self.now.n self.now.entries.now pivots.now rhs.old }
     {
-        interchange_all(pivots, rhs);
+        interchange_all(pivots, rhs, self.n);
         self.forward_substitution(rhs);
         self.back_substitution(rhs);
     }

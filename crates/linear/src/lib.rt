@@ -4,7 +4,7 @@
 
 ghost use Rattle.std.specs.Prelude.{◌≡◌, cond, ◌*◌, ◌≤◌, ltb, length, get_or};
 ghost use Rattle.std.specs.Float.Ieee.{lt};
-ghost use Rattle.vector.specs.Lists.{every};
+ghost use Rattle.vector.specs.Lists.{el, every};
 ghost use Rattle.linear.specs.Elimination.{scale, threshold, unusable};
 ghost use Rattle.linear.specs.Substitution.{solution};
 ghost use Rattle.linear.specs.Calls.{square, outcome, raw_of, factorize_of, Solvable, solved, solve_of};
@@ -24,13 +24,24 @@ fn larger(m: f64, x: f64) -> f64
     if m < x { x } else { m }
 }
 
-// The largest magnitude of a matrix.
+#[inline(always)]
+fn largest_of(entries: &[f64]) -> f64
+    ensures { result ≡ scale entries.now }
+{
+    entries
+        .iter()
+        .fold(0.0, |scale, x| larger(scale, float::abs(*x)))
+}
+
+// The largest magnitude of a matrix. Sixteen entries take no loop: the compiler writes them out.
 fn largest_magnitude(matrix: &[f64]) -> f64
     ensures { result ≡ scale matrix.now }
 {
-    matrix
-        .iter()
-        .fold(0.0, |scale, x| larger(scale, float::abs(*x)))
+    if matrix.len() == 16 {
+        largest_of(&matrix[..16])
+    } else {
+        largest_of(matrix)
+    }
 }
 
 // What a pivot has to exceed.
@@ -68,7 +79,7 @@ pub fn factorize_raw(matrix: &mut [f64], pivots: &mut [usize], n: usize) -> Resu
             entries: matrix,
             n: 4,
         }
-        .eliminate_columns(pivots, singularity_threshold)
+        .eliminate_four(pivots, singularity_threshold)
     } else {
         Matrix { entries: matrix, n }.eliminate_columns(pivots, singularity_threshold)
     }
@@ -94,16 +105,27 @@ pub fn factorize(matrix: &mut [f64], pivots: &mut [usize], n: usize) -> Result<(
     factorize_raw(matrix, pivots, n)
 }
 
-// Solves a factored system in place; sizes and pivots that fit are the caller's to see to.
-pub fn solve_factorized(factors: &[f64], pivots: &[usize], rhs: &mut [f64], n: usize)
+// Solves a factored system in place, and hands back the first unknown, which is found last; sizes and pivots that fit
+// are the caller's to see to.
+pub fn solve_factorized(factors: &[f64], pivots: &[usize], rhs: &mut [f64], n: usize) -> f64
     requires { Solvable n factors.now pivots.now rhs.old }
-    ensures { rhs.new ≡ solution n factors.now pivots.now rhs.old }
+    ensures { (rhs.new ≡ solution n factors.now pivots.now rhs.old) × (result ≡ el rhs.new 0) }
 {
-    Factors {
-        entries: factors,
-        n,
+    // Four unknowns by number, so that the compiler writes the loops out.
+    if n == 4 {
+        Factors {
+            entries: factors,
+            n: 4,
+        }
+        .solve(pivots, rhs);
+    } else {
+        Factors {
+            entries: factors,
+            n,
+        }
+        .solve(pivots, rhs);
     }
-    .solve(pivots, rhs)
+    rhs[0]
 }
 
 // Whether each pivot is a row.

@@ -32,6 +32,7 @@ impl Matrix<'_> {
     ghost use Rattle.linear.specs.Lent.{Same, Entries};
 
     // The pivot of a column, from the diagonal down.
+    #[inline(always)]
     fn column_pivot(&self, column: usize) -> Pivot
         requires { column < self.now.n }
         ensures { (result.row ≡ pivot_row self.now.n self.now.entries.now column) × (result.magnitude ≡ abs (entry self.now.n self.now.entries.now result.row column)) }
@@ -51,6 +52,7 @@ impl Matrix<'_> {
     }
 
     // Interchanges rows k and p.
+    #[inline(always)]
     fn interchange_rows(&mut self, k: usize, p: usize)
         requires { (k < self.old.n) × (p < self.old.n) }
         ensures { Entries self.old self.new (λ a i. a (interchange k p i)) }
@@ -65,6 +67,7 @@ impl Matrix<'_> {
     }
 
     // Takes the multiple of row k from another row, right of column k.
+    #[inline(always)]
     fn subtract_row(&mut self, k: usize, row: usize, factor: f64)
         requires { (k < row) × (row < self.old.n) }
         ensures { Entries self.old self.new (λ a i j. cond (ltb k j && eqb i row) (a row j ⊖ factor ⊗ a k j) (a i j)) }
@@ -79,6 +82,7 @@ impl Matrix<'_> {
     }
 
     // Step k in each row below row k.
+    #[inline(always)]
     fn eliminate(&mut self, k: usize)
         requires { k < self.old.n }
         ensures { Entries self.old self.new (elimination_step k) }
@@ -119,8 +123,28 @@ impl Matrix<'_> {
         ensures kept { Same self.old self.new }
     {
         for pivot_column in 0..self.n {
-            pivots[pivot_column] = self.column_step(pivot_column, threshold)?;
+            let pivot_row = self.column_step(pivot_column, threshold)?;
+            pivots[pivot_column] = pivot_row;
         }
+        Ok(())
+    }
+
+    // The same for four columns, each by its number, so that the compiler writes the loops out.
+    #[inline(always)]
+    pub fn eliminate_four(&mut self, pivots: &mut [usize], threshold: f64) -> Result<(), Refusal>
+        requires four { self.old.n ≡ 4 }
+        requires pivots { length pivots.old ≡ 4 }
+        ensures done { outcome result self.new.entries.now pivots.new ≡ elimination_of self.old.n threshold self.old.entries.now pivots.old }
+        ensures kept { Same self.old self.new }
+    {
+        let first = self.column_step(0, threshold)?;
+        pivots[0] = first;
+        let second = self.column_step(1, threshold)?;
+        pivots[1] = second;
+        let third = self.column_step(2, threshold)?;
+        pivots[2] = third;
+        let fourth = self.column_step(3, threshold)?;
+        pivots[3] = fourth;
         Ok(())
     }
 }

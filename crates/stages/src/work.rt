@@ -132,12 +132,18 @@ impl Work<'_> {
     }
 
     // The derivative at the accepted time and state is that of stage 0.
+    #[tactic(auto, using(vector::proofs::Loops::storing))]
     pub fn reuse_current(&mut self)
         requires { 0 < self.old.layout.s }
         ensures { Becomes self.old self.new (λ l w. puts w (rhs_stage_at l.n l.s 0) (component w (current_at l.n)) l.n) }
     {
+        let n = self.layout.n;
+        let from = self.layout.current().start;
         let to = self.layout.rhs_stage(0).start;
-        self.cells.copy_within(self.layout.current(), to);
+        let cells = &mut *self.cells;
+        for k in 0..n {
+            cells[to + k] = cells[from + k];
+        }
     }
 
     // ---- the stages

@@ -1,1 +1,2 @@
-mod Texts
+pub mod Putting
+pub mod Texts

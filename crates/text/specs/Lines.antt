@@ -1,5 +1,5 @@
 -- The lines that pond prints, in ASCII. Definitions only.
-use Rattle.std.specs.Prelude.{ℕ, zero, suc, ◌/◌, ◌%◌, cond, List, [], ◌∷◌, ◌++◌, ltb, Float}
+use Rattle.std.specs.Prelude.{ℕ, zero, suc, ◌+◌, ◌/◌, ◌%◌, cond, List, [], ◌∷◌, ◌++◌, ltb, length, take, drop, Float}
 use Rattle.std.specs.Float.{binary64}
 use Rattle.std.specs.Float.Ieee.{to_bits}
 use Rattle.io.specs.Digits.{hex_digit_ascii, last_digits}
@@ -24,6 +24,10 @@ space = 32 ∷ []
 
 abbrev pub newline : List ℕ
 newline = 10 ∷ []
+
+-- a buffer with text from `at` on; its other bytes stay
+unfoldable pub with_text : List ℕ → ℕ → List ℕ → List ℕ
+with_text out at text = take at out ++ text ++ drop (at + length text) out
 
 -- step number, time and state
 unfoldable pub step_line : ℕ → Float → Float → List ℕ

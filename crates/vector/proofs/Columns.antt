@@ -16,6 +16,10 @@ use Rattle.vector.proofs.Stores.{length-puts_column}
 use Rattle.vector.proofs.Parts.{length_part, part_at}
 use Rattle.vector.proofs.Matrices.{same_row, same_column}
 
+-- entry (r, k) of the matrix lies inside it
+pub inside_matrix : (at n r k len : ℕ) → at + n * n ≤ len → r < n → k < n → (at + (r * n + k) < len) × (r * n + k < n * n) × (r * n ≤ n * n)
+inside_matrix at n r k len h a b = let q = digits_lt {c = n} a b in (omega arith, omega arith, omega arith)
+
 -- a loop's next store, of a value that is right
 pub column_more : {A : Type 0} (w : List A) (at n k : ℕ) (f : ℕ → A) (r : ℕ) {v : A} → v ≡ f r → set (puts_column w at n k f r) (at + (r * n + k)) v ≡ puts_column w at n k f (r + 1)
 unfolding puts_column

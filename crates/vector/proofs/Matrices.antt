@@ -1,5 +1,6 @@
 -- A matrix that is given by its entries, two that agree at each entry, and a store at an entry. Assumes nothing.
 use Prim.Native.Nat.{ℕ, zero, suc, ◌+◌, ◌*◌, ◌/◌, ◌%◌, ◌<◌, ◌≤◌}
+use native.Mathlib.Numerals.{add-one}
 use native.Mathlib.Nat.{suc-mul, zero-mul, mul-le-mul_right, div-add-mod', mod-lt, div-lt_iff_lt-mul}
 use native.Mathlib.Omega.{arith}
 use mathlib.Core.Path.{◌≡◌, sym, ap, ◌∙◌}
@@ -19,6 +20,9 @@ use Rattle.vector.proofs.Lists.{length-table, table_at}
 -- where row i of r rows of n entries ends, and the next row starts
 pub row_inside : (n r i : ℕ) → i < r → i * n + n ≤ r * n
 row_inside n r i h = rw (← suc-mul) (mul-le-mul_right n h)
+
+pub row_next : (n i : ℕ) → (i + 1) * n ≡ i * n + n
+row_next n i = rw add-one (suc-mul i n)
 
 pub length-rows : (f : ℕ → ℕ → Float) (n r : ℕ) → length (rows f n r) ≡ r * n
 unfolding rows

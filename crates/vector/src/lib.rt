@@ -1,4 +1,4 @@
-// Vectors of doubles: filled, tested; a part of a long vector, written and read at an offset.
+// Vectors of doubles: copied, filled, tested; a part of a long vector, written and read at an offset.
 #![tactic(auto)]
 
 ghost use Rattle.std.specs.Prelude.{◌≡◌, ◌+◌, ◌≤◌, length, replicate};
@@ -31,6 +31,17 @@ pub fn all_finite(x: &[f64]) -> bool
     fours_finite(fours) && few_finite(rest)
 }
 
+// Copies src to dst, which is as long. By a loop: for std's copy_from_slice an archive for C would want memmove from outside.
+#[tactic(auto, using(crate::proofs::Loops::storing))]
+pub fn copy(dst: &mut [f64], src: &[f64])
+    requires { length dst.old ≡ length src.now }
+    ensures { dst.new ≡ src.now }
+{
+    for i in 0..dst.len() {
+        dst[i] = src[i];
+    }
+}
+
 // Sets each element to v.
 pub fn fill(dst: &mut [f64], v: f64)
     ensures { dst.new ≡ replicate (length dst.old) v }
@@ -45,7 +56,7 @@ pub fn put(w: &mut [f64], at: usize, x: &[f64])
     requires { at + length x.now ≤ length w.old }
     ensures { w.new ≡ puts w.old at (el x.now) (length x.now) }
 {
-    w[at..at + x.len()].copy_from_slice(x);
+    copy(&mut w[at..at + x.len()], x);
 }
 
 // Reads x from w, from `at` on.
@@ -53,5 +64,5 @@ pub fn read(w: &[f64], at: usize, x: &mut [f64])
     requires { at + length x.old ≤ length w.now }
     ensures { x.new ≡ part at (length x.old) w.now }
 {
-    x.copy_from_slice(&w[at..at + x.len()]);
+    copy(x, &w[at..at + x.len()]);
 }

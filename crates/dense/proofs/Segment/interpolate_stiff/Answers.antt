@@ -11,11 +11,11 @@ use Rattle.dense.proofs.Answers.{at_start, at_end, amid}
 use Rattle.dense.proofs.Segment.interpolate_stiff.Goals as goal
 
 pub returns-then-time-self : goal.returns-then-time-self
-returns-then-time-self c = at_start (shown c.args.self.now) c.args.time c.if-time-self.true c.copy_from_slice.ensures.after
+returns-then-time-self c = at_start (shown c.args.self.now) c.args.time c.if-time-self.true c.copy.ensures
 
 pub returns-then-time-self-2 : goal.returns-then-time-self-2
 returns-then-time-self-2 c =
-    at_end (shown c.args.self.now) c.args.time c.if-time-self.false c.if-time-self-2.true c.requires.fits.states c.copy_from_slice-then-time-self-2.ensures.after
+    at_end (shown c.args.self.now) c.args.time c.if-time-self.false c.if-time-self-2.true c.requires.fits.states c.copy-then-time-self-2.ensures
 
 pub returns : goal.returns
 unfolding theta

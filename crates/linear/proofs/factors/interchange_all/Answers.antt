@@ -13,4 +13,4 @@ pub loop-row-preserved : goal.loop-row-preserved
 loop-row-preserved c =
     let s = c.args in
     let l = c.loop-row in
-    interchanges_more s.pivots.now s.x.now l.x l.row l.invariant (omega arith) (omega (arith, c.requires.1 l.row)) c.swap.ensures.after
+    interchanges_more s.pivots.now s.x.now l.x l.row l.invariant (omega arith) (omega (arith, c.requires.2 l.row)) c.swap.ensures.after

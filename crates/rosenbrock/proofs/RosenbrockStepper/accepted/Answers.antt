@@ -12,11 +12,11 @@ returns-in_err-decision c =
     let p = err_from_is_err_and c.from_residual.result c.from_residual.ensures.1 in
     rw (p.1, p.2) (accept_refused a.self a.state.now a.work.now a.pivots.now (rw c.lent.ensures at c.decision.ensures) c.in_err-decision.was)
 
-pub slice_bounds-copy_from_slice-end : goal.slice_bounds-copy_from_slice-end
-slice_bounds-copy_from_slice-end c = let a = c.args in sym (candidate_long a.self a.state.now a.work.now a.pivots.now (rw c.lent.ensures at c.decision.ensures) c.in_ok-decision.was)
+pub slice_bounds-copy-end : goal.slice_bounds-copy-end
+slice_bounds-copy-end c = let a = c.args in sym (candidate_long a.self a.state.now a.work.now a.pivots.now (rw c.lent.ensures at c.decision.ensures) c.in_ok-decision.was)
 
-pub copy_from_slice-requires : goal.copy_from_slice-requires
-copy_from_slice-requires c =
+pub copy-requires : goal.copy-requires
+copy-requires c =
     let a = c.args in
     let e = rw c.lent.ensures at c.decision.ensures in
     state_long a.self a.state.now a.work.now a.pivots.now e c.in_ok-decision.was ∙ sym (candidate_long a.self a.state.now a.work.now a.pivots.now e c.in_ok-decision.was)
@@ -25,4 +25,4 @@ pub returns : goal.returns
 unfolding done_by
 returns c =
     let a = c.args in
-    accept_done a.self a.state.now a.work.now a.pivots.now (rw c.lent.ensures at c.decision.ensures) c.in_ok-decision.was c.memo_accepted.ensures c.copy_from_slice.ensures.after c.saturating_add.ensures
+    accept_done a.self a.state.now a.work.now a.pivots.now (rw c.lent.ensures at c.decision.ensures) c.in_ok-decision.was c.memo_accepted.ensures c.copy.ensures c.saturating_add.ensures

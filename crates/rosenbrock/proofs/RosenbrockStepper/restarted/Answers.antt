@@ -15,8 +15,8 @@ returns-in_err-reset c =
     let p = err_from_is_err_and c.from_residual.result c.from_residual.ensures.1 in
     rw (p.1, p.2) (reset_refused a.self a.state.now a.work.now a.pivots.now a.time a.values.now e c.in_err-reset.was)
 
-pub copy_from_slice-requires : goal.copy_from_slice-requires
-copy_from_slice-requires c =
+pub copy-requires : goal.copy-requires
+copy-requires c =
     let a = c.args in
     let e = rw c.lent.ensures at c.reset.ensures in
     reset_length a.self a.state.now a.work.now a.pivots.now a.time a.values.now e c.in_ok-reset.was
@@ -45,4 +45,4 @@ unfolding done_by
 returns c =
     let a = c.args in
     let e = rw c.lent.ensures at c.reset.ensures in
-    reset_done a.self a.state.now a.work.now a.pivots.now a.time a.values.now e c.in_ok-reset.was c.needed_work.ensures c.fresh.ensures c.copy_from_slice.ensures.after (c.fill.ensures.after (λ y h. h)) (c.fill-2.ensures.after (λ y h. h))
+    reset_done a.self a.state.now a.work.now a.pivots.now a.time a.values.now e c.in_ok-reset.was c.needed_work.ensures c.fresh.ensures c.copy.ensures (c.fill.ensures.after (λ y h. h)) (c.fill-2.ensures.after (λ y h. h))

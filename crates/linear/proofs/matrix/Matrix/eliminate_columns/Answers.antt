@@ -12,15 +12,15 @@ loop-pivot_column-init c =
     let m = s.self.now in
     (reached_none m.n s.threshold m.entries.now s.pivots.now, search rules)
 
-pub returns-in_err-pivots : goal.returns-in_err-pivots
-returns-in_err-pivots c =
+pub returns-in_err-pivot_row : goal.returns-in_err-pivot_row
+returns-in_err-pivot_row c =
     let s = c.args in
     let m = s.self.now in
     let l = c.loop-pivot_column in
     let w = c.column_step.ensures in
-    let e : c.from_residual.result ≡ Err c.in_err-pivots.field-0.0 = search rules in
+    let e : c.from_residual.result ≡ Err c.in_err-pivot_row.field-0.0 = search rules in
     record {
-      done = rw e (reached_stop m.n s.threshold m.entries.now s.pivots.now l.pivot_column l.invariant.0 l.invariant.1.1 w.answer w.left c.in_err-pivots.was (omega arith));
+      done = rw e (reached_stop m.n s.threshold m.entries.now s.pivots.now l.pivot_column l.invariant.0 l.invariant.1.1 w.answer w.left c.in_err-pivot_row.was (omega arith));
       kept = search rules;
     }
 
@@ -30,7 +30,7 @@ loop-pivot_column-preserved c =
     let m = s.self.now in
     let l = c.loop-pivot_column in
     let w = c.column_step.ensures in
-    (reached_more m.n s.threshold m.entries.now s.pivots.now l.pivot_column l.invariant.0 l.invariant.1.1 w.answer w.left c.in_ok-pivots.was, search rules)
+    (reached_more m.n s.threshold m.entries.now s.pivots.now l.pivot_column l.invariant.0 l.invariant.1.1 w.answer w.left c.in_ok-pivot_row.was, search rules)
 
 pub returns : goal.returns
 returns c =

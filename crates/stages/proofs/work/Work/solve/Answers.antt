@@ -20,4 +20,4 @@ returns c =
     spanned r.result a (linear_rhs_at n) n r.ensures ∙ sym (in_front w a s.result.1.now (linear_rhs_at n) n s.ensures.value (omega arith)) in
     let f : take (n * n) s.result.1.now ≡ part (factors_at n) (n * n) w = rw (s.ensures.back, c.factors-start.ensures.0) refl in
     let l = c.solve_factorized.auto.rhs ∙ ap length b ∙ length_part (linear_rhs_at n) n w (omega arith) in
-    (joined r.result w a s.result.1.now y (linear_rhs_at n) n r.ensures s.ensures.value (omega arith) l ∙ ap (λ (z : List Float). puts w (linear_rhs_at n) (el z) n) (c.solve_factorized.ensures ∙ rw (f, b) refl), (refl, refl))
+    (joined r.result w a s.result.1.now y (linear_rhs_at n) n r.ensures s.ensures.value (omega arith) l ∙ ap (λ (z : List Float). puts w (linear_rhs_at n) (el z) n) (c.solve_factorized.ensures.0 ∙ rw (f, b) refl), (refl, refl))

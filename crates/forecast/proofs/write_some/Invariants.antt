@@ -1,0 +1,6 @@
+-- `forecast::write_some`: an interrupted write appends nothing.
+use Rattle.std.specs.Io.KnownBytes.{Keeps}
+use Rattle.forecast.proofs.write_some.Given as goal
+
+abbrev pub invariant-loop : goal.invariant-loop
+invariant-loop g l = Keeps (g.W.Write.contents l.initial.output) (g.W.Write.contents l.output)
