@@ -154,9 +154,28 @@ static void pond(void)
     same("the output then", bits(copy[0]), bits(7.5));
 }
 
+/* Every reader ends, whatever byte stands in a flag's place. */
+static void flags(void)
+{
+    const unsigned char bytes[6] = {2, 3, 127, 128, 254, 255};
+    state[0] = 1.0;
+    wiqhano_making_answer made = wiqhano_stepper_new(file, 80, wiqhano_default_policy(), 0.0, state, 1,
+                                                     work, 12, pivots, 1);
+    for (int i = 0; i < 6; i++) {
+        wiqhano_rosenbrock_stepper idle = made.stepper, pending = attempted(made.stepper);
+        memcpy(&idle.progress.memo.derivative_valid, &bytes[i], 1);
+        memcpy(&pending.progress.memo.error_shown, &bytes[i], 1);
+        uint32_t derivative = wiqhano_stepper_derivative(idle, state, 1, work, 12, pivots, 1).kind;
+        uint32_t error = wiqhano_stepper_error(pending, state, 1, work, 12, pivots, 1).kind;
+        same("kind of a derivative", derivative == 3 || derivative == 4, true);
+        same("kind of an error", error == 3 || error == 4, true);
+    }
+}
+
 int main(void)
 {
     numbers();
     pond();
+    flags();
     return differences != 0;
 }
